@@ -1,0 +1,5 @@
+pub mod Words
+pub mod Fixnums
+pub mod Text
+pub mod Store
+pub mod Seen

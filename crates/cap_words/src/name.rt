@@ -1,0 +1,45 @@
+// Names of assembly and symbols.
+
+ghost use Rattle.std.specs.Prelude.{◌≡◌, if◌then◌else◌, IsTrue, Some, None};
+ghost use Rattle.cap_words.specs.Text.{is_name};
+
+use std::marker::Model;
+
+/// A name: 1 to 128 bytes, each of them from 33 to 126.
+#[derive(Drop)]
+pub struct Name {
+    bytes: Vec<u8>,
+}
+
+impl Model for Name {
+    ghost use Rattle.std.specs.Prelude.{ℕ, List, IsTrue};
+    ghost use Rattle.cap_words.specs.Text.{is_name};
+
+    ghost Value = { List ℕ };
+
+    ghost view = { λ n. n.bytes.items };
+
+    ghost invariant = { λ n. IsTrue (is_name n.bytes.items) };
+}
+
+impl Name {
+    /// The name of these bytes, where they are one.
+    pub fn new(bytes: Vec<u8>) -> Option<Name>
+        ensures { result ≡ (if is_name bytes.items then Some bytes.items else None) }
+    {
+        let is_short = !bytes.is_empty() && bytes.len() <= 128;
+        if is_short && bytes.iter().all(|&byte| byte >= 33 && byte <= 126) {
+            Some(Name { bytes })
+        } else {
+            None
+        }
+    }
+
+    /// The bytes.
+    pub fn bytes(&self) -> &[u8]
+        ensures value { result.now ≡ self.now }
+        ensures is_name { IsTrue (is_name result.now) }
+    {
+        &self.bytes
+    }
+}
