@@ -1,0 +1,6 @@
+//! A whole run of a program text.
+#![tactic(auto)]
+
+mod text;
+
+pub use text::StartError;
