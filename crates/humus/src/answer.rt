@@ -1,0 +1,39 @@
+// The answers of the program.
+ghost use Rattle.std.specs.Prelude.{◌≡◌};
+ghost use Rattle.humus.specs.Answers.{status_of};
+
+/// What the program answers. For each answer its status, its line on err and its cause are defined in specs/Answers.
+#[derive(Clone, Copy, Debug, PartialEq, Eq)]
+pub enum Answer {
+    /// The command was done.
+    Done,
+    /// The words have no form.
+    Usage,
+    /// A file could not be read.
+    Unread,
+    /// A text is longer than its limit.
+    TooLong,
+    /// Out or err could not be written.
+    Fault,
+    /// There was no memory.
+    NoMemory,
+    /// A text has a form that is not built yet.
+    NotBuilt,
+}
+
+impl Answer {
+    /// The exit status.
+    pub fn status(self) -> u8
+        ensures { result ≡ status_of self }
+    {
+        match self {
+            Answer::Done => 0,
+            Answer::Usage => 1,
+            Answer::Unread => 2,
+            Answer::TooLong => 3,
+            Answer::Fault => 4,
+            Answer::NoMemory => 7,
+            Answer::NotBuilt => 12,
+        }
+    }
+}

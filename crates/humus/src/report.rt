@@ -1,0 +1,59 @@
+// The lines on err.
+ghost use Rattle.std.specs.Prelude.{◌≡◌, OnOk, OnErr};
+ghost use Rattle.std.specs.List.{flat_map};
+ghost use Rattle.hum_outside.specs.Outside.{HasCause, AppendsFront, appended};
+ghost use Rattle.humus.specs.Report.{counts_line};
+ghost use Rattle.humus.specs.Answers.{Said, line_of};
+
+use crate::answer::Answer;
+use hum_outside::{Failed, Sink, put_parts};
+use hum_run::Report;
+use itoa::Buffer;
+
+/// Writes the line of counts.
+pub fn put_counts<K: Sink>(sink: &mut K, report: Report) -> Result<(), Failed>
+    ensures all { OnOk result (K.written sink.new ≡ appended (K.written sink.old) (counts_line report)) }
+    ensures front { OnErr result (AppendsFront (K.written sink.old) (K.written sink.new) (counts_line report)) }
+    ensures cause { HasCause (K.faults sink.old) (K.faults sink.new) result }
+{
+    let (mut finished, mut committed) = (Buffer::new(), Buffer::new());
+    let (mut failed, mut spent, mut pending) = (Buffer::new(), Buffer::new(), Buffer::new());
+    put_parts(
+        sink,
+        &[
+            b"finished ",
+            finished.format(report.finished).as_bytes(),
+            b" committed ",
+            committed.format(report.committed).as_bytes(),
+            b" failed ",
+            failed.format(report.failed).as_bytes(),
+            b" spent ",
+            spent.format(report.spent).as_bytes(),
+            b" pending ",
+            pending.format(report.pending).as_bytes(),
+            b"\n",
+        ],
+    )
+}
+
+/// Writes the line of a refusal, if it has one. A fault is let pass: the refusal's status tells more.
+pub fn refuse<K: Sink>(err: &mut K, answer: Answer, name: &str)
+    ensures { Said (record { old = K.written err.old; new = K.written err.new; faults_old = K.faults err.old; faults_new = K.faults err.new }) (line_of answer name.now) }
+{
+    let name = name.as_bytes();
+    match answer {
+        Answer::Done | Answer::Fault => {}
+        Answer::Usage => say(err, &[b"usage: humus COMMAND FILE.. [KEY=N..]\n"]),
+        Answer::Unread => say(err, &[b"cannot read ", name, b"\n"]),
+        Answer::TooLong => say(err, &[name, b": text too long\n"]),
+        Answer::NoMemory => say(err, &[b"no memory\n"]),
+        Answer::NotBuilt => say(err, &[name, b": not built yet\n"]),
+    }
+}
+
+// Writes a line, and lets a fault pass.
+fn say<K: Sink>(sink: &mut K, parts: &[&[u8]])
+    ensures { Said (record { old = K.written sink.old; new = K.written sink.new; faults_old = K.faults sink.old; faults_new = K.faults sink.new }) (flat_map (λ part. part.now) parts.now) }
+{
+    let _ = put_parts(sink, parts);
+}
