@@ -28,7 +28,11 @@ impl Name {
     pub fn new(bytes: Vec<u8>) -> Option<Name>
         ensures { result ≡ (if is_name bytes.items then Some bytes.items else None) }
     {
-        if is_name(&bytes) { Some(Name { bytes }) } else { None }
+        if is_name(&bytes) {
+            Some(Name { bytes })
+        } else {
+            None
+        }
     }
 
     /// The bytes.

@@ -1,10 +1,10 @@
 -- Actors, events and sponsors as the words of their quads.
-use Rattle.std.specs.Prelude.{ℕ, List, [], ◌∷◌, Option, Some, None, option_map, slice_get}
+use Rattle.std.specs.Prelude.{ℕ, ◌+◌, List, [], ◌∷◌, Option, Some, None, option_map, slice_get}
 use Rattle.cap_words.specs.declared.word.Quad.{Quad}
 use Rattle.cap_words.specs.declared.word.Tag.{Tag}
 use Rattle.cap_words.specs.declared.word.Tag.TheVariants.{Actor, Event, SponsorHeld, SponsorSpent}
 use Rattle.cap_words.specs.Words.{W, actor_t, sponsor_t}
-use Rattle.cap_words.specs.Store.{Store, Cell, cell_as, opaque_cell, spent_cell}
+use Rattle.cap_words.specs.Store.{Store, Cell, cell_as, changed, opaque_cell, spent_cell}
 use Rattle.quad_memory.specs.declared.cells.ActorCell.{ActorCell}
 use Rattle.quad_memory.specs.declared.cells.EventCell.{EventCell}
 use Rattle.quad_memory.specs.declared.cells.SponsorCell.{SponsorCell}
@@ -60,6 +60,10 @@ event_cells c = cell_as Event (event_words c) ∷ []
 
 abbrev pub sponsor_cells : SponsorCell → List Cell
 sponsor_cells c = cell_as SponsorHeld (held_words c) ∷ cell_as SponsorSpent (spent_words c) ∷ []
+
+-- the store after both quads of the sponsor at a number were changed
+abbrev pub sponsor_changed : Store → ℕ → SponsorCell → Store
+sponsor_changed s n c = changed (changed s n (cell_as SponsorHeld (held_words c))) (n + 1) (cell_as SponsorSpent (spent_words c))
 
 -- the words of the RAM quad of that number, whatever it was taken for
 abbrev pub ram_cell : List Cell → ℕ → Option Quad

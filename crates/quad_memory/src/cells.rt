@@ -1,7 +1,7 @@
 // What actors, events and sponsors hold.
 
-ghost use Rattle.std.specs.Prelude.{◌≡◌};
-ghost use Rattle.quad_memory.specs.Cells.{actor_words, event_words, held_words, spent_words, actor_in, event_in};
+ghost use Rattle.std.specs.Prelude.{◌≡◌, Some};
+ghost use Rattle.quad_memory.specs.Cells.{actor_words, event_words, held_words, spent_words, actor_in, event_in, sponsor_in};
 
 use cap_words::{Quad, Word};
 
@@ -89,5 +89,40 @@ pub(crate) fn spent_quad(c: &SponsorCell) -> Quad
         x: c.memory_spent,
         y: c.events_spent,
         z: c.cycles_spent,
+    }
+}
+
+pub(crate) fn actor_in(q: &Quad) -> ActorCell
+    ensures { result ≡ actor_in q.now }
+{
+    ActorCell {
+        code: q.x,
+        state: q.y,
+        mark: q.z,
+    }
+}
+
+pub(crate) fn event_in(q: &Quad) -> EventCell
+    ensures { result ≡ event_in q.now }
+{
+    EventCell {
+        sponsor: q.t,
+        target: q.x,
+        message: q.y,
+        next: q.z,
+    }
+}
+
+pub(crate) fn sponsor_in(held: &Quad, spent: &Quad) -> SponsorCell
+    ensures { Some result ≡ sponsor_in (Some held.now) (Some spent.now) }
+{
+    SponsorCell {
+        signal: held.t,
+        memory: held.x,
+        events: held.y,
+        cycles: held.z,
+        memory_spent: spent.x,
+        events_spent: spent.y,
+        cycles_spent: spent.z,
     }
 }

@@ -88,7 +88,10 @@ fn is_rom_quad(count: usize, q: &Quad) -> bool
     requires { count < 2 ^ 32 }
     ensures { result ≡ is_rom_quad count q.now }
 {
-    is_rom_word(count, q.t) && is_rom_word(count, q.x) && is_rom_word(count, q.y) && is_rom_word(count, q.z)
+    is_rom_word(count, q.t)
+        && is_rom_word(count, q.x)
+        && is_rom_word(count, q.y)
+        && is_rom_word(count, q.z)
 }
 
 fn is_rom_word(count: usize, w: Word) -> bool
