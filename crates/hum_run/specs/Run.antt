@@ -4,6 +4,8 @@ use Rattle.std.specs.Fmt.{signed_decimal}
 use Rattle.std.specs.List.{flat_map}
 use Rattle.hum_outside.specs.Outside.{appended, AppendsFront}
 use Rattle.cap_words.specs.Words.{W, Fix, number_of, undef, nil}
+use Rattle.cap_words.specs.Store.{Store}
+use Rattle.quad_memory.specs.Cells.{event_at}
 use Rattle.quad_memory.specs.declared.cells.EventCell.{EventCell}
 use Rattle.hum_run.specs.declared.run.Report.{Report}
 
@@ -37,6 +39,10 @@ line_of None = []
 abbrev pub piece : Option EventCell → List ℕ
 piece event = line_of (option_and_then (λ (e : EventCell). number_of e.message) event)
 
+-- what the event writes that a word names
+abbrev pub written_by : Store → W → List ℕ
+written_by s w = piece (event_at s w)
+
 -- what the events write that are not finished
 abbrev pub pieces_left : RunState → List ℕ
 pieces_left run = flat_map piece (drop run.finished run.events)
@@ -65,3 +71,11 @@ pub record Breaks (old new : RunState) (written_old written_new : Option (List �
   pub further : old.finished ≤ new.finished
   pub pending : slice_get old.events new.finished ≡ Some event
   pub written : AppendsFront (appended written_old (flat_map piece (take (new.finished - old.finished) (drop old.finished old.events)))) written_new (piece event)
+
+-- a write failed in one of the pending events, after as many as were counted
+pub record BrokeAt (pending : List W) (finished_old finished_new : ℕ) (f : W → List ℕ) (written_old written_new : Option (List ℕ)) : Type 0 where
+  pub count : ℕ
+  pub event : W
+  pub counted : finished_new ≡ finished_old + count
+  pub there : slice_get pending count ≡ Some event
+  pub written : AppendsFront (appended written_old (flat_map f (take count pending))) written_new (f event)

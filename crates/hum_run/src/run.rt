@@ -1,5 +1,5 @@
 // A run, from its text to its last event.
-ghost use Rattle.std.specs.Prelude.{◌≡◌, ◌+◌, ◌-◌, ◌<◌, ◌≤◌, ◌↔◌, ◌∷◌, ℤ, List, [], length, map, take, drop, get_or, vec_len, Option, Some, None, Ok, IsTrue, IfOk, IfErr, OnOk, OnErr, IsErrOf, false};
+ghost use Rattle.std.specs.Prelude.{◌≡◌, ◌+◌, ◌-◌, ◌^◌, ◌<◌, ◌≤◌, ◌↔◌, ◌∷◌, ℤ, List, [], length, map, take, drop, get_or, vec_len, Option, Some, None, Ok, IsTrue, IfOk, IfErr, OnOk, OnErr, IsErrOf, false};
 ghost use Rattle.std.specs.List.{flat_map};
 ghost use Rattle.hum_outside.specs.Outside.{Rose, HasCause, AppendsFront, appended};
 ghost use Rattle.cap_words.specs.Words.{W, Fix, undef, nil};
@@ -7,7 +7,7 @@ ghost use Rattle.cap_words.specs.Fixnums.{in_range};
 ghost use Rattle.cap_words.specs.Store.{used};
 ghost use Rattle.quad_memory.specs.Cells.{event_at};
 ghost use Rattle.hum_run.specs.Text.{IsFirstForm};
-ghost use Rattle.hum_run.specs.Run.{event_to, events_of, started, number_line, piece, report_of, Finishes, Breaks};
+ghost use Rattle.hum_run.specs.Run.{event_to, events_of, started, number_line, written_by, report_of, BrokeAt, Finishes, Breaks};
 ghost use Rattle.hum_run.specs.declared.run.Stop.TheVariants.{Rest, Broken};
 
 use crate::text::{StartError, read_messages};
@@ -107,7 +107,8 @@ impl Run {
         if self.broken {
             return Ok(Stop::Broken);
         }
-        match finish_events(&self.quads, &self.events, &mut self.finished, out) {
+        let pending = &self.events[self.finished as usize..];
+        match finish_events(&self.quads, pending, &mut self.finished, out) {
             Ok(()) => Ok(Stop::Rest),
             Err(Failed) => {
                 self.broken = true;
@@ -178,8 +179,8 @@ fn put_events(alloc: Global, quads: &mut Quads, messages: &[Word]) -> Result<Vec
 
 // Writes what one event writes.
 fn deliver<K: Sink>(quads: &Quads, event: Word, out: &mut K) -> Result<(), Failed>
-    ensures all { OnOk result (K.written out.new ≡ appended (K.written out.old) (piece (event_at quads.now.store event))) }
-    ensures front { OnErr result (AppendsFront (K.written out.old) (K.written out.new) (piece (event_at quads.now.store event))) }
+    ensures all { OnOk result (K.written out.new ≡ appended (K.written out.old) (written_by quads.now.store event)) }
+    ensures front { OnErr result (AppendsFront (K.written out.old) (K.written out.new) (written_by quads.now.store event)) }
     ensures cause { HasCause (K.faults out.old) (K.faults out.new) result }
 {
     match quads.event(event) {
@@ -200,21 +201,20 @@ fn put_number<K: Sink>(out: &mut K, number: i32) -> Result<(), Failed>
     put_parts(out, &[buffer.format(number).as_bytes(), b"\n"])
 }
 
-// Finishes the events in order, and counts them.
+// Finishes the pending events in order, and counts them.
 fn finish_events<K: Sink>(
     quads: &Quads,
-    events: &[Word],
+    pending: &[Word],
     finished: &mut u32,
     out: &mut K,
 ) -> Result<(), Failed>
-    requires { finished.old ≤ length events.now }
-    ensures all { OnOk result ((finished.new ≡ length events.now) × (K.written out.new ≡ appended (K.written out.old) (flat_map (λ w. piece (event_at quads.now.store w)) (drop finished.old events.now)))) }
-    ensures within { finished.old ≤ finished.new }
-    ensures pending { OnErr result (finished.new < length events.now) }
-    ensures front { OnErr result (AppendsFront (appended (K.written out.old) (flat_map (λ w. piece (event_at quads.now.store w)) (take (finished.new - finished.old) (drop finished.old events.now)))) (K.written out.new) (piece (event_at quads.now.store (get_or events.now finished.new undef)))) }
+    requires { finished.old + length pending.now < 2 ^ 32 }
+    ensures finished { OnOk result (finished.new ≡ finished.old + length pending.now) }
+    ensures all { OnOk result (K.written out.new ≡ appended (K.written out.old) (flat_map (written_by quads.now.store) pending.now)) }
+    ensures broke { OnErr result (BrokeAt pending.now finished.old finished.new (written_by quads.now.store) (K.written out.old) (K.written out.new)) }
     ensures cause { HasCause (K.faults out.old) (K.faults out.new) result }
 {
-    for event in &events[*finished as usize..] {
+    for event in pending {
         deliver(quads, *event, out)?;
         *finished += 1;
     }
