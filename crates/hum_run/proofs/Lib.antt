@@ -1,3 +1,4 @@
 mod Words
 mod Numbers
 mod Spelled
+mod Events
