@@ -2,3 +2,4 @@ mod Words
 mod Numbers
 mod Spelled
 mod Events
+pub mod Outputs
