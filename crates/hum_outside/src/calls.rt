@@ -75,15 +75,20 @@ pub fn read_all<F: Folder>(
     name: &str,
     limit: u64,
 ) -> Result<Vec<u8>, ReadError>
-    ensures bytes { (bytes : List ℕ) → told (F.files files.old) name.now ≡ Some (Some bytes) → IfOk result (λ v. v.items ≡ bytes) }
+    ensures bytes { (bytes : List ℕ) → told (F.files files.old) name.now ≡ Some (Some bytes) →
+        IfOk result (λ v. v.items ≡ bytes) }
     ensures within { IfOk result (λ v. vec_len v ≤ limit) }
 
     // Only a file of more bytes is too long, and none of more bytes is read.
-    ensures too_long { (bytes : List ℕ) → told (F.files files.old) name.now ≡ Some (Some bytes) → IsErrOf result ReadError.TooLong → limit < length bytes }
-    ensures longer { (bytes : List ℕ) → told (F.files files.old) name.now ≡ Some (Some bytes) → limit < length bytes → IsErr result }
+    ensures too_long { (bytes : List ℕ) → told (F.files files.old) name.now ≡ Some (Some bytes) →
+        IsErrOf result ReadError.TooLong → limit < length bytes }
+    ensures longer { (bytes : List ℕ) → told (F.files files.old) name.now ≡ Some (Some bytes) →
+        limit < length bytes → IsErr result }
 
-    ensures failed { IsErrOf result ReadError.Failed → Rose (F.faults files.old) (F.faults files.new) ⊎ (told (F.files files.old) name.now ≡ Some None) }
-    ensures absent { told (F.files files.old) name.now ≡ Some None → IsErrOf result ReadError.Failed ⊎ IsErrOf result ReadError.NoMemory }
+    ensures failed { IsErrOf result ReadError.Failed →
+        Rose (F.faults files.old) (F.faults files.new) ⊎ (told (F.files files.old) name.now ≡ Some None) }
+    ensures absent { told (F.files files.old) name.now ≡ Some None →
+        IsErrOf result ReadError.Failed ⊎ IsErrOf result ReadError.NoMemory }
     ensures kept { told (F.files files.old) name.now ≡ Some None → F.faults files.new ≡ F.faults files.old }
 
     ensures later { F.faults files.old ≤ F.faults files.new }

@@ -1,5 +1,5 @@
-//! What a program reads and writes: files by name and sinks of bytes, each with a count of its faults. A call fails only
-//! where that count rose, and a failed write has appended a front of what it was to write.
+//! What a program reads and writes: files by name and sinks of bytes, each with a count of its faults. A call fails
+//! only where that count rose or a file is known to be absent, and a failed write has appended a front of its bytes.
 //!
 //! - `Folder` and `Sink` are the outside as a program sees it. Code that reads or writes is generic over them.
 //! - `read_all` reads a whole file, `put_all` writes all of some bytes, and `put_parts` a line made of several parts.
