@@ -18,17 +18,21 @@ on_err (Ok _) p = tt
 on_err (Err _) p = p
 
 module _ (old mid new : Option (List ℕ)) (xs ys : List ℕ) where
-  -- the first bytes were appended, and then the rest
+  -- some bytes were appended, and then more
   pub all_after : mid ≡ appended old xs → new ≡ appended mid ys → new ≡ appended old (xs ++ ys)
   all_after first rest = rest ∙ ap (λ w. appended w ys) first ∙ appended-appended old xs ys
 
-  -- the first bytes were appended, and then a front of the rest
+  -- some bytes were appended, and then a front of more
   pub front_after : mid ≡ appended old xs → AppendsFront mid new ys → AppendsFront old new (xs ++ ys)
   front_after first front = record {
     count = length xs + front.count;
     within = omega (arith, front.within, length-append xs ys);
     front = front.front ∙ ap (λ w. appended w (take front.count ys)) first ∙ appended-appended old xs (take front.count ys) ∙ ap (appended old) (sym (take-append-add xs ys front.count));
   }
+
+-- the first i bytes were appended, and then the n that follow
+pub front_more : (old mid new : Option (List ℕ)) (bytes : List ℕ) (i n : ℕ) → mid ≡ appended old (take i bytes) → new ≡ appended mid (take n (drop i bytes)) → new ≡ appended old (take (i + n) bytes)
+front_more old mid new bytes i n first rest = all_after old mid new (take i bytes) (take n (drop i bytes)) first rest ∙ ap (appended old) (sym (take-add i n bytes))
 
 -- a front of some bytes is one of more bytes
 pub front_left : (old new : Option (List ℕ)) (xs ys : List ℕ) → AppendsFront old new xs → AppendsFront old new (xs ++ ys)
