@@ -1,5 +1,5 @@
 -- The item at a place of a list, after more items or another one there.
-use Rattle.std.proofs.Common.{◌≡◌, ℕ, zero, suc, ◌<◌, List, [], ◌∷◌, ◌++◌, length, Some, refl, ap, sym, arith}
+use Rattle.std.proofs.Common.{◌≡◌, ℕ, zero, suc, ◌+◌, ◌<◌, List, [], ◌∷◌, ◌++◌, length, Some, refl, ap, sym, arith}
 use Rattle.std.specs.Prelude.{slice_get, slice_set}
 
 pub get-left : {A : Type 0} (xs ys : List A) (n : ℕ) → n < length xs → slice_get (xs ++ ys) n ≡ slice_get xs n
@@ -27,3 +27,7 @@ pub set-same : {A : Type 0} (xs : List A) (n : ℕ) (x : A) → slice_get xs n �
 set-same [] n x h = refl
 set-same (y ∷ xs) zero x h = let e : y ≡ x = cc in ap (λ z. z ∷ xs) (sym e)
 set-same (y ∷ xs) (suc n) x h = ap (λ l. y ∷ l) (set-same xs n x h)
+
+pub get-second : {A : Type 0} (xs ys : List A) (x y : A) → slice_get (xs ++ x ∷ y ∷ ys) (length xs + 1) ≡ Some y
+get-second [] ys x y = refl
+get-second (z ∷ xs) ys x y = let e : suc (length xs) + 1 ≡ suc (length xs + 1) = omega arith in rw e (get-second xs ys x y)

@@ -1,5 +1,5 @@
 -- What is under a word after quads were taken, or one was changed.
-use Rattle.std.proofs.Common.{◌≡◌, ℕ, zero, suc, ◌+◌, ◌<◌, List, [], ◌∷◌, ◌++◌, Some, refl, ap, sym, ◌∙◌}
+use Rattle.std.proofs.Common.{◌≡◌, ℕ, zero, suc, ◌+◌, ◌<◌, List, [], ◌∷◌, ◌++◌, Some, refl, ap, sym, ◌∙◌, arith}
 use Rattle.std.specs.Prelude.{slice_get, slice_set}
 use Rattle.std.proofs.lemmas.Option.{slice_get_within}
 use Rattle.cap_words.specs.declared.word.Quad.{Quad}
@@ -7,7 +7,7 @@ use Rattle.cap_words.specs.declared.word.Tag.{Tag}
 use Rattle.cap_words.specs.declared.word.Tag.TheVariants.{Ordinary, SponsorSpent}
 use Rattle.cap_words.specs.Words.{W, Fix, Rom, Ram, Cap}
 use Rattle.cap_words.specs.Store.{Store, Cell, tagged, cell, opaque_cell, spent_cell, used, taken, changed, cell_as, cap_place}
-use Rattle.cap_words.proofs.Places.{get-left, get-seam, get-set_same, get-set_other}
+use Rattle.cap_words.proofs.Places.{get-left, get-seam, get-second, get-set_same, get-set_other}
 use Rattle.cap_words.proofs.Tags.{tagged-same, tagged_is, tagged-other, tagged_twice}
 
 -- a quad that is there: its number, and the cell there
@@ -97,3 +97,16 @@ spent-changed_kind s n t p q (Fix k) h f = refl
 spent-changed_kind s n t p q (Rom k) h f = refl
 spent-changed_kind s n t p q (Ram k) h f = refl
 spent-changed_kind s n t p q (Cap k) h f = tagged-changed s.ram n (k + 1) t SponsorSpent p q (tagged_is t (slice_get s.ram n) p h) f
+
+-- a second quad that is taken for a sponsor is found under the word of the first
+pub spent-first : (s : Store) (cells : List Cell) (c : Cell) (q : Quad) → spent_cell (taken s (c ∷ cell_as SponsorSpent q ∷ cells)) (Cap (used s)) ≡ Some q
+spent-first s cells c q = ap (tagged SponsorSpent) (get-second s.ram cells c (cell_as SponsorSpent q)) ∙ tagged-same SponsorSpent q
+
+pub spent-changed_same : (s : Store) (n : ℕ) (q : Quad) → n + 1 < used s → spent_cell (changed s (n + 1) (cell_as SponsorSpent q)) (Cap n) ≡ Some q
+spent-changed_same s n q h = ap (tagged SponsorSpent) (get-set_same s.ram (n + 1) (cell_as SponsorSpent q) h) ∙ tagged-same SponsorSpent q
+
+pub spent-changed_other : (s : Store) (n : ℕ) (c : Cell) (w : W) → (w ≡ Cap n → ⊥) → spent_cell (changed s (n + 1) c) w ≡ spent_cell s w
+spent-changed_other s n c (Fix k) f = refl
+spent-changed_other s n c (Rom k) f = refl
+spent-changed_other s n c (Ram k) f = refl
+spent-changed_other s n c (Cap k) f = ap (tagged SponsorSpent) (get-set_other s.ram (n + 1) (k + 1) c (λ e. f (ap Cap (omega (arith, e)))))
