@@ -1,4 +1,6 @@
-//! A whole run of a program text.
+//! Whole runs of a program text. So far a text is a list of statements `SEND N TO println`.
+//!
+//! `Run::start` reads a text and puts its events into quads, `Run::advance` finishes them in order, and `Run::report` counts them.
 #![tactic(auto)]
 
 mod run;
@@ -6,3 +8,6 @@ mod text;
 
 pub use run::{Report, Run, Stop, WriteFault};
 pub use text::StartError;
+
+#[cfg(test)]
+mod tests;

@@ -36,6 +36,9 @@ pub record Writes : Type 0 where
   pub faults_old : ℕ
   pub faults_new : ℕ
 
+abbrev pub writes : Option (List ℕ) → Option (List ℕ) → ℕ → ℕ → Writes
+writes old new faults_old faults_new = record { old = old; new = new; faults_old = faults_old; faults_new = faults_new }
+
 -- what the program is given, and what it leaves
 pub record Call : Type 0 where
   pub words : List (List ℕ)
@@ -93,6 +96,9 @@ pub record BreaksErr (run : RunState) (out err : Writes) (numbers : List ℤ) : 
   pub output : Wrote out (output_of numbers)
   pub counts : WroteFront err (counts_line (report_of run))
 
+abbrev pub BreaksOff : RunState → Writes → Writes → List ℤ → Type 0
+BreaksOff run out err numbers = BreaksOut run out err numbers ⊎ BreaksErr run out err numbers
+
 -- the file's numbers were sent, the run was left in the record, and this holds of it
 pub record Ran (c : Call) (Ends : RunState → Writes → Writes → List ℤ → Type 0) : Type 0 where
   pub numbers : List ℤ
@@ -127,7 +133,7 @@ pub record RefusedFile (answer : Answer) (c : Call) : Type 0 where
 -- why each answer comes, and what it leaves
 abbrev pub Answered : Answer → Call → Type 0
 Answered Done c = Ran c Completes
-Answered Fault c = Ran c (λ run out err numbers. BreaksOut run out err numbers ⊎ BreaksErr run out err numbers)
+Answered Fault c = Ran c BreaksOff
 Answered Usage c = (file_named c.words ≡ None) × Refused Usage c []
 Answered Unread c = RefusedFile Unread c
 Answered TooLong c = RefusedFile TooLong c

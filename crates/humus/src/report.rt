@@ -3,7 +3,7 @@ ghost use Rattle.std.specs.Prelude.{◌≡◌, OnOk, OnErr};
 ghost use Rattle.std.specs.List.{flat_map};
 ghost use Rattle.hum_outside.specs.Outside.{HasCause, AppendsFront, appended};
 ghost use Rattle.humus.specs.Report.{counts_line};
-ghost use Rattle.humus.specs.Answers.{Said, line_of};
+ghost use Rattle.humus.specs.Answers.{Said, writes, line_of};
 
 use crate::answer::Answer;
 use hum_outside::{Failed, Sink, put_parts};
@@ -38,7 +38,7 @@ pub fn put_counts<K: Sink>(sink: &mut K, report: Report) -> Result<(), Failed>
 
 /// Writes the line of a refusal, if it has one. A fault is let pass: the refusal's status tells more.
 pub fn refuse<K: Sink>(err: &mut K, answer: Answer, name: &str)
-    ensures { Said (record { old = K.written err.old; new = K.written err.new; faults_old = K.faults err.old; faults_new = K.faults err.new }) (line_of answer name.now) }
+    ensures { Said (writes (K.written err.old) (K.written err.new) (K.faults err.old) (K.faults err.new)) (line_of answer name.now) }
 {
     let name = name.as_bytes();
     match answer {
@@ -53,7 +53,7 @@ pub fn refuse<K: Sink>(err: &mut K, answer: Answer, name: &str)
 
 // Writes a line, and lets a fault pass.
 fn say<K: Sink>(sink: &mut K, parts: &[&[u8]])
-    ensures { Said (record { old = K.written sink.old; new = K.written sink.new; faults_old = K.faults sink.old; faults_new = K.faults sink.new }) (flat_map (λ part. part.now) parts.now) }
+    ensures { Said (writes (K.written sink.old) (K.written sink.new) (K.faults sink.old) (K.faults sink.new)) (flat_map (λ part. part.now) parts.now) }
 {
     let _ = put_parts(sink, parts);
 }

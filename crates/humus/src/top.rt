@@ -5,7 +5,7 @@ ghost use Rattle.hum_outside.specs.Outside.{told, Rose, appended};
 ghost use Rattle.hum_run.specs.Text.{IsFirstForm};
 ghost use Rattle.hum_run.specs.Run.{started};
 ghost use Rattle.humus.specs.Words.{file_named};
-ghost use Rattle.humus.specs.Answers.{Answered, Cause, Completes, BreaksOut, BreaksErr, status_of, TextIs, text_limit};
+ghost use Rattle.humus.specs.Answers.{Answered, Cause, Completes, BreaksOff, writes, status_of, TextIs, text_limit};
 ghost use Rattle.humus.specs.declared.answer.Answer.{Answer as AnyAnswer};
 
 use crate::answer::Answer;
@@ -69,8 +69,12 @@ fn load<F: Folder>(alloc: Global, files: &mut F, name: &str) -> Result<Run, Answ
 // Finishes the events of a run, and writes the line of counts.
 fn finish<K: Sink>(run: &mut Run, out: &mut K, err: &mut K) -> Result<(), Failed>
     requires { run.old.broken ≡ false }
-    ensures completes { (numbers : List ℤ) → run.old ≡ started numbers → OnOk result (Completes run.new (record { old = K.written out.old; new = K.written out.new; faults_old = K.faults out.old; faults_new = K.faults out.new }) (record { old = K.written err.old; new = K.written err.new; faults_old = K.faults err.old; faults_new = K.faults err.new }) numbers) }
-    ensures breaks { (numbers : List ℤ) → run.old ≡ started numbers → OnErr result (BreaksOut run.new (record { old = K.written out.old; new = K.written out.new; faults_old = K.faults out.old; faults_new = K.faults out.new }) (record { old = K.written err.old; new = K.written err.new; faults_old = K.faults err.old; faults_new = K.faults err.new }) numbers ⊎ BreaksErr run.new (record { old = K.written out.old; new = K.written out.new; faults_old = K.faults out.old; faults_new = K.faults out.new }) (record { old = K.written err.old; new = K.written err.new; faults_old = K.faults err.old; faults_new = K.faults err.new }) numbers) }
+    ensures completes { (numbers : List ℤ) → run.old ≡ started numbers → OnOk result (Completes run.new
+        (writes (K.written out.old) (K.written out.new) (K.faults out.old) (K.faults out.new))
+        (writes (K.written err.old) (K.written err.new) (K.faults err.old) (K.faults err.new)) numbers) }
+    ensures breaks { (numbers : List ℤ) → run.old ≡ started numbers → OnErr result (BreaksOff run.new
+        (writes (K.written out.old) (K.written out.new) (K.faults out.old) (K.faults out.new))
+        (writes (K.written err.old) (K.written err.new) (K.faults err.old) (K.faults err.new)) numbers) }
 {
     match run.advance(None, out, err) {
         Ok(Stop::Rest) => put_counts(err, run.report()),
@@ -88,7 +92,16 @@ fn answer<F: Folder, K: Sink>(
     err: &mut K,
     last: &mut Record,
 ) -> Answer
-    ensures { Answered result (record { words = map string_bytes words.now; files = F.files files.old; faults_old = F.faults files.old; faults_new = F.faults files.new; out = record { old = K.written out.old; new = K.written out.new; faults_old = K.faults out.old; faults_new = K.faults out.new }; err = record { old = K.written err.old; new = K.written err.new; faults_old = K.faults err.old; faults_new = K.faults err.new }; run_old = last.old.run; run_new = last.new.run }) }
+    ensures { Answered result (record {
+      words = map string_bytes words.now;
+      files = F.files files.old;
+      faults_old = F.faults files.old;
+      faults_new = F.faults files.new;
+      out = writes (K.written out.old) (K.written out.new) (K.faults out.old) (K.faults out.new);
+      err = writes (K.written err.old) (K.written err.new) (K.faults err.old) (K.faults err.new);
+      run_old = last.old.run;
+      run_new = last.new.run;
+    }) }
 {
     let Some(name) = file_named(words) else {
         refuse(err, Answer::Usage, "");
@@ -124,11 +137,24 @@ pub fn humus_main<F: Folder, K: Sink>(
     last: &mut Record,
 ) -> u8
     // The status is that of an answer that came by its cause, and left what it says.
-    ensures answered { (answer : AnyAnswer) × (result ≡ status_of answer) × Answered answer (record { words = map string_bytes words.now; files = F.files files.old; faults_old = F.faults files.old; faults_new = F.faults files.new; out = record { old = K.written out.old; new = K.written out.new; faults_old = K.faults out.old; faults_new = K.faults out.new }; err = record { old = K.written err.old; new = K.written err.new; faults_old = K.faults err.old; faults_new = K.faults err.new }; run_old = last.old.run; run_new = last.new.run }) }
+    ensures answered { (answer : AnyAnswer) × (result ≡ status_of answer) × Answered answer (record {
+      words = map string_bytes words.now;
+      files = F.files files.old;
+      faults_old = F.faults files.old;
+      faults_new = F.faults files.new;
+      out = writes (K.written out.old) (K.written out.new) (K.faults out.old) (K.faults out.new);
+      err = writes (K.written err.old) (K.written err.new) (K.faults err.old) (K.faults err.new);
+      run_old = last.old.run;
+      run_new = last.new.run;
+    }) }
 
     // A text within the limit that has the form is run to its end, where no count rises and there is memory.
-    ensures complete { (name bytes : List ℕ) (numbers : List ℤ) → file_named (map string_bytes words.now) ≡ Some name → told (F.files files.old) name ≡ Some (Some bytes) → length bytes ≤ text_limit → IsFirstForm bytes numbers
-        → ¬ (Rose (F.faults files.old) (F.faults files.new)) → ¬ (Rose (K.faults out.old) (K.faults out.new)) → ¬ (Rose (K.faults err.old) (K.faults err.new)) → (result ≡ 0) ⊎ (result ≡ 7) }
+    ensures complete { (name bytes : List ℕ) (numbers : List ℤ) →
+        file_named (map string_bytes words.now) ≡ Some name → told (F.files files.old) name ≡ Some (Some bytes) →
+        length bytes ≤ text_limit → IsFirstForm bytes numbers →
+        ¬ (Rose (F.faults files.old) (F.faults files.new)) →
+        ¬ (Rose (K.faults out.old) (K.faults out.new)) →
+        ¬ (Rose (K.faults err.old) (K.faults err.new)) → (result ≡ 0) ⊎ (result ≡ 7) }
 {
     let answer = answer(alloc, words, files, out, err, last);
     answer.status()

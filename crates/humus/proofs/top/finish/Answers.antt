@@ -22,14 +22,14 @@ returns-in-Ok-Rest-clause-breaks g c = λ numbers fresh.
     let w = g.K.Sink.written in
     let ran = finishes-started numbers c.args.run.now c.advance.new.self (w c.args.out.now) (w c.advance.new.out) fresh (c.in-Ok-Rest.ensures.rest (ap Ok c.in-Ok-Rest.field-0-is)) in
     on_err-map c.put_counts.result c.put_counts.ensures.front c.put_counts.ensures.cause.failed (λ front rose. inr (record {
-        run_is = ran.0;
-        output = ran.1;
-        counts = (
-          subst (λ (o : Option (List ℕ)). AppendsFront o (w c.put_counts.new.sink) (counts_line (report_of c.advance.new.self))) c.in-Ok-Rest.ensures.err_written
-          (subst (λ (r : Report). AppendsFront (w c.advance.new.err) (w c.put_counts.new.sink) (counts_line r)) c.report.ensures front),
-          subst (λ (n : ℕ). Rose n (g.K.Sink.faults c.put_counts.new.sink)) c.in-Ok-Rest.ensures.err_faults rose,
-        );
-      }))
+      run_is = ran.0;
+      output = ran.1;
+      counts = (
+        subst (λ (o : Option (List ℕ)). AppendsFront o (w c.put_counts.new.sink) (counts_line (report_of c.advance.new.self))) c.in-Ok-Rest.ensures.err_written
+            (subst (λ (r : Report). AppendsFront (w c.advance.new.err) (w c.put_counts.new.sink) (counts_line r)) c.report.ensures front),
+        subst (λ (n : ℕ). Rose n (g.K.Sink.faults c.put_counts.new.sink)) c.in-Ok-Rest.ensures.err_faults rose,
+      );
+    }))
 
 pub returns-in-Err-clause-breaks : goal.returns-in-Err-clause-breaks
 returns-in-Err-clause-breaks g c = λ numbers fresh.

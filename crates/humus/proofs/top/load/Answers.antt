@@ -8,13 +8,12 @@ use Rattle.humus.proofs.top.load.Goals as goal
 pub returns-in-Ok-start-clause-started : goal.returns-in-Ok-start-clause-started
 returns-in-Ok-start-clause-started g c =
     let started = c.in-Ok-start.ensures.started in
-    let file = told (g.F.Folder.files c.args.files.now) c.args.name.now in
-    (
+    let file = told (g.F.Folder.files c.args.files.now) c.args.name.now in (
       started.0,
       started.1,
       text_is (λ bytes. (length bytes ≤ text_limit) × IsFirstForm bytes started.0) file
-      (λ bytes is.
-        let same : c.in-Ok.bytes.items ≡ bytes = c.in-Ok.ensures.bytes bytes is in
-        (omega (arith, ap length same, c.in-Ok.ensures.within, c.in-Ok.bytes.ok.0), subst (λ (l : List ℕ). IsFirstForm l started.0) (c.deref.ensures.value ∙ same) started.2))
-      (λ none. ⊎_elim (λ e. cc) (λ e. cc) (c.in-Ok.ensures.absent none)),
+          (λ bytes is.
+          let same : c.in-Ok.bytes.items ≡ bytes = c.in-Ok.ensures.bytes bytes is in
+          (omega (arith, ap length same, c.in-Ok.ensures.within, c.in-Ok.bytes.ok.0), subst (λ (l : List ℕ). IsFirstForm l started.0) (c.deref.ensures.value ∙ same) started.2))
+          (λ none. ⊎_elim (λ e. cc) (λ e. cc) (c.in-Ok.ensures.absent none)),
     )
