@@ -15,7 +15,11 @@ fn words_are_spelled_by_their_bits(rt: HostRuntime) {
     assert_eq!(rt; Word::TYPE_T.bits(), 4);
     assert_eq!(rt; Word::PAIR_T.bits(), 10);
     assert_eq!(rt; Word::BLOCK_T.bits(), 15);
-    for (n, bits) in [(0x3FFF_FFFF, Some(0xBFFF_FFFF)), (0x4000_0000, None), (-0x4000_0001, None)] {
+    for (n, bits) in [
+        (0x3FFF_FFFF, Some(0xBFFF_FFFF)),
+        (0x4000_0000, None),
+        (-0x4000_0001, None),
+    ] {
         assert_eq!(rt; Word::fix(n).map(|w| w.bits()), bits, "at {n}");
     }
 }
@@ -37,7 +41,14 @@ fn bits_of_rom_words_are_read(rt: HostRuntime) {
         assert_eq!(rt; w.number(), number, "at {bits}");
         assert_eq!(rt; w.place(), place, "at {bits}");
     }
-    for bits in [0x2000_0000, 0x3FFF_FFFF, 0x4000_0000, 0x5FFF_FFFF, 0x6000_0000, 0x7FFF_FFFF] {
+    for bits in [
+        0x2000_0000,
+        0x3FFF_FFFF,
+        0x4000_0000,
+        0x5FFF_FFFF,
+        0x6000_0000,
+        0x7FFF_FFFF,
+    ] {
         assert!(rt; Word::rom_bits(bits).is_none(), "at {bits}");
     }
     assert_eq!(rt; Word::ram(7).kind(), Kind::Ram);
@@ -56,10 +67,23 @@ fn arithmetic_wraps(rt: HostRuntime) {
 
 #[test]
 fn names_have_1_to_128_visible_bytes(rt: HostRuntime) -> Result<(), Fail> {
-    let rows = [(0, b'a', false), (1, b'a', true), (128, b'a', true), (129, b'a', false), (3, 32, false), (3, 33, true), (3, 126, true), (3, 127, false)];
+    let rows = [
+        (0, b'a', false),
+        (1, b'a', true),
+        (128, b'a', true),
+        (129, b'a', false),
+        (3, 32, false),
+        (3, 33, true),
+        (3, 126, true),
+        (3, 127, false),
+    ];
     for (length, byte, is_name) in rows {
         let name = Name::new(vec![in rt.alloc(); byte; length]?);
-        assert_eq!(rt; name.map(|name| name.bytes().len()), if is_name { Some(length) } else { None }, "{length} times {byte}");
+        assert_eq!(rt;
+            name.map(|name| name.bytes().len()),
+            if is_name { Some(length) } else { None },
+            "{length} times {byte}"
+        );
     }
     Ok(())
 }
