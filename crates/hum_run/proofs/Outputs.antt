@@ -1,13 +1,13 @@
 -- What the run of some numbers has written, after its last event and where a write failed.
-use Rattle.std.proofs.Common.{◌≡◌, ◌+◌, ◌-◌, ◌<◌, ℕ, ℤ, List, [], ◌∷◌, ◌++◌, length, map, take, drop, get_or, Option, Some, None, refl, sym, ◌∙◌, ap, subst, arith}
+use Rattle.std.proofs.Common.{◌≡◌, ◌+◌, ◌-◌, ℕ, ℤ, List, [], ◌∷◌, ◌++◌, length, map, take, get_or, Option, Some, refl, sym, ◌∙◌, ap, subst, arith}
 use Rattle.std.specs.List.{flat_map}
 use Rattle.std.proofs.lemmas.List.{length-map}
 use Rattle.std.proofs.lemmas.Option.{slice_get_within, get_or_from_slice_get}
 use Rattle.hum_outside.specs.Outside.{appended, AppendsFront}
 use Rattle.hum_outside.proofs.Fronts.{pieces_front}
-use Rattle.cap_words.specs.Words.{W, Fix}
+use Rattle.cap_words.specs.Words.{Fix}
 use Rattle.quad_memory.specs.declared.cells.EventCell.{EventCell}
-use Rattle.hum_run.specs.Run.{RunState, event_to, events_of, started, done, number_line, piece, pieces_left, output_of, Finishes, Breaks}
+use Rattle.hum_run.specs.Run.{RunState, event_to, started, done, number_line, piece, pieces_left, output_of, Finishes, Breaks}
 
 lines : (numbers : List ℤ) → flat_map piece (map (λ (e : EventCell). Some e) (map (event_to 1) (map Fix numbers))) ≡ output_of numbers
 lines [] = refl

@@ -1,5 +1,4 @@
-use Rattle.std.proofs.Common.{◌≡◌, ◌+◌, ◌≤◌, take, map, length, vec_len, Some}
-use Rattle.cap_words.specs.Words.{nil}
+use Rattle.std.proofs.Common.{◌≡◌, ◌+◌, take, map, vec_len, Some}
 use Rattle.cap_words.specs.Store.{used}
 use Rattle.quad_memory.specs.Cells.{event_at}
 use Rattle.hum_run.specs.Run.{events_of}

@@ -1,4 +1,4 @@
-use Rattle.std.proofs.Common.{◌≡◌, ◌∙◌, ap, drop, length, rules}
+use Rattle.std.proofs.Common.{◌∙◌, ap, drop, rules}
 use Rattle.std.proofs.lemmas.List.{take_rest}
 use Rattle.hum_run.proofs.Events.{finishes, breaks}
 use Rattle.hum_run.proofs.run.Run.advance.Goals as goal
