@@ -1,0 +1,11 @@
+//! The instruction table: which quads spell which operations, what each costs, and, as definitions, what each does.
+//!
+//! `decode` and `encode` go from quads to operations and back; `op_charge` is the table's column of charges. The definitions of the
+//! rows stand in `specs/`: `Row` has one case for each operation.
+#![tactic(auto)]
+
+mod charge;
+mod op;
+
+pub use charge::{Charge, Quota};
+pub use op::Op;
