@@ -1,5 +1,6 @@
 -- Words: a fixnum, or the number of a quad of ROM, of RAM, or of RAM that only the machine may open.
-use Rattle.std.specs.Prelude.{ℕ, ◌+◌, ◌-◌, ◌^◌, ◌<◌, ◌≤◌, nat_lt, nat_le, nat_eq, int_eq, if◌then◌else◌, ℤ, pos, negsuc, Bool, true, false, ◌||◌, Option, Some, None, ◌⊎◌}
+use Rattle.std.specs.Prelude.{ℕ, ◌+◌, ◌-◌, ◌^◌, ◌<◌, ◌≤◌, nat_lt, nat_le, nat_eq, if◌then◌else◌, ℤ, pos, negsuc, Bool, true, false, ◌||◌, Option, Some, None, ◌⊎◌}
+use Rattle.std.specs.Ordering.{int_eq}
 use Rattle.cap_words.specs.declared.word.Kind.{Kind}
 use Rattle.cap_words.specs.declared.word.Kind.TheVariants.{Fix as FixKind, Const as ConstKind, Rom as RomKind, Ram as RamKind, Cap as CapKind}
 

@@ -1,7 +1,8 @@
 // Names of assembly and symbols.
 
 ghost use Rattle.std.specs.Prelude.{◌≡◌, if◌then◌else◌, IsTrue, Some, None};
-ghost use Rattle.cap_words.specs.Text.{is_name};
+ghost use Rattle.std.specs.List.{list_all};
+ghost use Rattle.cap_words.specs.Text.{is_name, is_visible};
 
 use std::marker::Model;
 
@@ -27,8 +28,7 @@ impl Name {
     pub fn new(bytes: Vec<u8>) -> Option<Name>
         ensures { result ≡ (if is_name bytes.items then Some bytes.items else None) }
     {
-        let is_short = !bytes.is_empty() && bytes.len() <= 128;
-        if is_short && bytes.iter().all(|&byte| byte >= 33 && byte <= 126) {
+        if is_name(&bytes) {
             Some(Name { bytes })
         } else {
             None
@@ -42,4 +42,16 @@ impl Name {
     {
         &self.bytes
     }
+}
+
+fn is_name(bytes: &[u8]) -> bool
+    ensures { result ≡ is_name bytes.now }
+{
+    !bytes.is_empty() && bytes.len() <= 128 && are_visible(bytes)
+}
+
+fn are_visible(bytes: &[u8]) -> bool
+    ensures { result ≡ list_all is_visible bytes.now }
+{
+    bytes.iter().all(|&byte| byte >= 33 && byte <= 126)
 }
