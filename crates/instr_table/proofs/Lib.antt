@@ -1,3 +1,4 @@
 mod Examples
 mod ListExamples
 mod EventExamples
+mod RoundTrip

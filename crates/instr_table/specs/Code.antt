@@ -1,5 +1,5 @@
 -- Which quads spell which operations.
-use Rattle.std.specs.Prelude.{ℕ, nat_eq, nat_le, if◌then◌else◌, ℤ, pos, negsuc, int_le, unsigned_abs, Bool, true, ◌&&◌, ◌||◌, Option, Some, None}
+use Rattle.std.specs.Prelude.{ℕ, nat_eq, nat_le, if◌then◌else◌, ℤ, pos, negsuc, int_le, unsigned_abs, Bool, true, ◌&&◌, ◌||◌, Option, Some, None, option_map}
 use Rattle.std.specs.Ordering.{int_eq}
 use Rattle.cap_words.specs.declared.word.Quad.{Quad}
 use Rattle.cap_words.specs.Words.{W, Fix, same_word, number_of, undef, instr_t}
@@ -15,10 +15,14 @@ within low high n = int_le low n && int_le n high
 abbrev pub turns : ℕ → ℤ → Bool
 turns most n = nat_le 1 (unsigned_abs n) && nat_le (unsigned_abs n) most
 
+-- the number of an operand, where it passes a test
+abbrev pub passing : (ℤ → Bool) → Option ℤ → Option ℤ
+passing test None = None
+passing test (Some n) = if test n then Some n else None
+
 -- the operation whose operand is a number that passes a test
 abbrev pub numbered : (ℤ → Bool) → (ℤ → Op) → Option ℤ → Option Op
-numbered test op None = None
-numbered test op (Some n) = if test n then Some (op n) else None
+numbered test op n = option_map op (passing test n)
 
 -- the operation that has no operand
 abbrev pub bare : Op → W → Option Op

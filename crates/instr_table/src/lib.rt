@@ -5,7 +5,11 @@
 #![tactic(auto)]
 
 mod charge;
+mod decoding;
+mod encoding;
 mod op;
 
-pub use charge::{Charge, Quota};
+pub use charge::{Charge, Quota, op_charge};
+pub use decoding::decode;
+pub use encoding::encode;
 pub use op::Op;
