@@ -3,3 +3,4 @@ pub mod Fixnums
 pub mod Text
 pub mod Store
 pub mod Seen
+pub mod Frame

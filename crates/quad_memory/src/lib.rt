@@ -11,5 +11,5 @@ mod quads;
 
 pub use cells::{ActorCell, EventCell, SponsorCell};
 pub use image::Image;
-pub use quads::Quads;
+pub use quads::{Quads, ordinary_cells_stand};
 pub use std::alloc::AllocError as NoMemory;

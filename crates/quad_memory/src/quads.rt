@@ -1,8 +1,8 @@
 // The quads of a machine.
 
-ghost use Rattle.std.specs.Prelude.{◌≡◌, ◌+◌, ◌^◌, ◌<◌, ◌≤◌, if◌then◌else◌, nat_lt, length, [], ◌∷◌, ◌++◌, Some, None, IfOk, IsSome, slice_get, vec_len, vec_capacity};
-ghost use Rattle.cap_words.specs.Words.{Ram, Cap};
-ghost use Rattle.cap_words.specs.Store.{cell, opaque_cell, spent_cell, tagged, same_tag, rom_cell, used, taken, changed, cell_as, cap_place};
+ghost use Rattle.std.specs.Prelude.{◌≡◌, ◌+◌, ◌^◌, ◌<◌, ◌≤◌, if◌then◌else◌, nat_lt, List, length, [], ◌∷◌, ◌++◌, Some, None, IfOk, IsSome, slice_get, vec_len, vec_capacity};
+ghost use Rattle.cap_words.specs.Words.{W, Ram, Cap};
+ghost use Rattle.cap_words.specs.Store.{Store, Cell, cell, opaque_cell, spent_cell, tagged, same_tag, rom_cell, used, taken, changed, cell_as, cap_place};
 ghost use Rattle.quad_memory.specs.Memory.{with_store};
 ghost use Rattle.quad_memory.specs.Cells.{actor_words, event_words, actor_cells, event_cells, sponsor_cells, actor_at, event_at, sponsor_at, sponsor_changed, ram_cell, cells_of};
 
@@ -327,4 +327,14 @@ fn push_cell(tags: &mut Vec<Tag>, quads: &mut Vec<Quad>, tag: Tag, quad: Quad)
         Ok(()) => {}
         Err(_) => unreachable!(),
     }
+}
+
+/// Ordinary cells never change: a word that reads a cell reads the same one after any quads were taken, and after an actor, an event
+/// or a sponsor was changed.
+pub fn ordinary_cells_stand()
+    ensures taken { (s : Store) (cells : List Cell) (w : W) (q : Quad) → cell s w ≡ Some q → cell (taken s cells) w ≡ Some q }
+    ensures actor { (s : Store) (w v : W) (c : ActorCell) → IsSome (actor_at s v) → cell (changed s (cap_place v) (cell_as Tag.Actor (actor_words c))) w ≡ cell s w }
+    ensures event { (s : Store) (w v : W) (c : EventCell) → IsSome (event_at s v) → cell (changed s (cap_place v) (cell_as Tag.Event (event_words c))) w ≡ cell s w }
+    ensures sponsor { (s : Store) (w v : W) (c : SponsorCell) → IsSome (sponsor_at s v) → cell (sponsor_changed s (cap_place v) c) w ≡ cell s w }
+{
 }
