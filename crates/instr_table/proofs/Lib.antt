@@ -2,3 +2,4 @@ mod Examples
 mod ListExamples
 mod EventExamples
 mod RoundTrip
+pub mod Charges

@@ -13,3 +13,4 @@ pub mod SponsorRows
 pub mod Row
 pub mod Lane
 pub mod Reach
+pub mod Laws

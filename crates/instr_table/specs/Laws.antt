@@ -1,0 +1,85 @@
+-- What is so of every row of the table.
+use Rattle.std.specs.Prelude.{◌≡◌, ℕ, ◌+◌, ◌≤◌, ◌⊎◌, true, List, [], ◌∷◌, ◌++◌, length, Option, Some, None, IfSome}
+use Rattle.cap_words.specs.Words.{W, Cap}
+use Rattle.cap_words.specs.Seen.{Seen, Slot, OpenSlot, ActorSlot, UnbornSlot, EventSlot, SponsorSlot, SpentSlot}
+use Rattle.instr_table.specs.declared.charge.Charge.{Charge}
+use Rattle.instr_table.specs.declared.op.Op.{Op}
+use Rattle.instr_table.specs.Lists.{next_quad}
+use Rattle.instr_table.specs.Spelling.{charge_of, spelling}
+use Rattle.instr_table.specs.Event.{Own, Effects, Effect, Nothing, Sends, Creates, Assigns, Becomes, Sponsors, Grants, Reclaims, Starts, Stops, has_created}
+use Rattle.instr_table.specs.Outcome.{Going, Outcome, Goes, Faults, Commits, Row, events_in}
+use Rattle.instr_table.specs.Reach.{Every, words_of, Known}
+
+-- the charge is the one of the table's column, where that has one
+abbrev pub IsCharged : Op → Row → Type 0
+IsCharged op r = IfSome (charge_of op) (λ c. r.charge ≡ c)
+
+-- no more quads are taken than are charged, and no more events are used
+abbrev pub Covers : Charge → Outcome → Type 0
+Covers c (Goes g) = (length g.made + length g.pushed ≤ c.quads) × (events_in g.effect ≤ c.events)
+Covers c (Faults w) = Unit {0}
+Covers c Commits = Unit {0}
+
+abbrev pub OwnIn : Effects → Effect → Type 0
+OwnIn e Nothing = Unit {0}
+OwnIn e (Sends m) = Unit {0}
+OwnIn e (Creates m) = Unit {0}
+OwnIn e (Assigns m) = has_created m.actor e.created ≡ true
+OwnIn e (Becomes b) = Unit {0}
+OwnIn e (Sponsors w) = Unit {0}
+OwnIn e (Grants w kind n) = Unit {0}
+OwnIn e (Reclaims w) = Unit {0}
+OwnIn e (Starts w signal) = Unit {0}
+OwnIn e (Stops w) = Unit {0}
+
+-- only an actor that the event created is given another behaviour
+abbrev pub AssignsOwn : Effects → Outcome → Type 0
+AssignsOwn e (Goes g) = OwnIn e g.effect
+AssignsOwn e (Faults w) = Unit {0}
+AssignsOwn e Commits = Unit {0}
+
+-- ---- which words an instruction hands on
+
+-- the words that an event has at an instruction: its operand, the next code word, its actor with its code and state, its message, and
+-- its stack
+abbrev pub words_at : Own → Op → List W → W → List W
+words_at own op vs k = (spelling op).1 ∷ k ∷ own.actor ∷ own.code ∷ own.state ∷ own.message ∷ vs
+
+module _ (s : Seen) (made : List Slot) (ws : List W) (payer : W) where
+  -- a message is under the payer, or under a sponsor that the event knew
+  abbrev pub IsUnder : W → Type 0
+  IsUnder w = (w ≡ payer) ⊎ Known s made ws w
+
+  -- a new cell holds words that the event knew
+  abbrev pub CellKnown : Slot → Type 0
+  CellKnown (OpenSlot q) = Every (Known s made ws) (words_of q)
+  CellKnown (ActorSlot code state mark) = ⊥
+  CellKnown UnbornSlot = Unit {0}
+  CellKnown (EventSlot sponsor target message) = IsUnder sponsor × Known s made ws target × Known s made ws message
+  CellKnown SponsorSlot = Unit {0}
+  CellKnown SpentSlot = Unit {0}
+
+  -- an effect names words that the event knew, and the quad that was taken for its message
+  abbrev pub EffectKnown : Effect → Type 0
+  EffectKnown Nothing = Unit {0}
+  EffectKnown (Sends m) = (m.event ≡ Cap (next_quad s)) × IsUnder m.sponsor × Known s made ws m.target × Known s made ws m.content
+  EffectKnown (Creates m) = Known s made ws m.actor × Known s made ws m.state × Known s made ws m.code
+  EffectKnown (Assigns m) = Known s made ws m.actor × Known s made ws m.state × Known s made ws m.code
+  EffectKnown (Becomes b) = Known s made ws b.state × Known s made ws b.code
+  EffectKnown (Sponsors w) = Known s made ws w
+  EffectKnown (Grants w kind n) = Known s made ws w
+  EffectKnown (Reclaims w) = Known s made ws w
+  EffectKnown (Starts w signal) = Known s made ws w × (signal ≡ Cap (next_quad s))
+  EffectKnown (Stops w) = Known s made ws w
+
+-- all that an instruction hands on it knew before, or made itself
+pub record KeepsTo (s : Seen) (ws : List W) (payer : W) (g : Going) : Type 0 where
+  pub items : Every (Known s g.made ws) g.pushed
+  pub next : Known s g.made ws g.goes_to
+  pub cells : Every (CellKnown s g.made ws payer) g.made
+  pub effect : EffectKnown s g.made ws payer g.effect
+
+abbrev pub HandsOn : Seen → List W → W → Outcome → Type 0
+HandsOn s ws payer (Goes g) = KeepsTo s ws payer g
+HandsOn s ws payer (Faults w) = Known s [] ws w
+HandsOn s ws payer Commits = Unit {0}
