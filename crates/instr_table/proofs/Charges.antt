@@ -32,7 +32,7 @@ length-top_items zero vs = refl
 length-top_items (suc n) [] = ap suc (length-top_items n [])
 length-top_items (suc n) (v ∷ vs) = ap suc (length-top_items n vs)
 
-length-linked : {A : Type 0} (f : A → W → Quad) (n : ℕ) (xs : List A) (tail : W) → length (linked f n xs tail) ≡ length xs
+pub length-linked : {A : Type 0} (f : A → W → Quad) (n : ℕ) (xs : List A) (tail : W) → length (linked f n xs tail) ≡ length xs
 length-linked f n [] tail = refl
 length-linked f n (x ∷ xs) tail = ap suc (length-linked f (suc n) xs _)
 

@@ -3,3 +3,5 @@ mod ListExamples
 mod EventExamples
 mod RoundTrip
 pub mod Charges
+pub mod GotWords
+pub mod KnownWords

@@ -1,0 +1,141 @@
+-- An instruction hands on only words that the event knew, and those of cells, actors and sponsors that it makes.
+use Rattle.std.proofs.Common.{◌≡◌, ℕ, zero, suc, ◌+◌, ◌-◌, ◌<◌, ◌≤◌, ℤ, pos, negsuc, Bool, true, false, List, [], ◌∷◌, ◌++◌, length, reverse, Option, Some, None, refl, ap, inl, inr, arith, if◌then◌else◌, unsigned_abs, length-append, nat_lt, nat_le, is_some}
+use Rattle.std.specs.Ordering.{int_eq}
+use Rattle.cap_words.specs.declared.word.Quad.{Quad}
+use Rattle.cap_words.specs.Words.{W, Fix, Rom, Ram, Cap, same_word, number_of, undef, nil, truth, pair_t, dict_t, deque_t}
+use Rattle.cap_words.specs.Seen.{Seen, Slot, OpenSlot, cell_seen}
+use Rattle.cap_words.specs.Frame.{Among}
+use Rattle.instr_table.specs.declared.charge.Quota.{Quota}
+use Rattle.instr_table.specs.declared.op.Op.{Op}
+use Rattle.instr_table.specs.declared.op.Op.TheVariants.{Push, Dup, Drop, Pick, Roll, Depth, Pair, Part, Nth, QuadMake, QuadTake, Get, Typeq, Eq, Cmp, AluNot, Alu, If, Jump, Msg, State, My, ActorSend, ActorPost, ActorCreate, ActorAssign, ActorBecome, End, DictTest, DictPut, DictDel, DequeNew, DequeTest, DequePut, DequeTake, SponsorNew, SponsorGrant, SponsorReclaim, SponsorStart, SponsorStop, Assert, Debug}
+use Rattle.instr_table.specs.Types.{is_actor, is_sponsor, is_makeable}
+use Rattle.instr_table.specs.Lists.{next_quad, item, top_items, rolled, linked, last_linked, chained, one_cell, Built, pair_quad, pair_in, items, longest}
+use Rattle.instr_table.specs.Dictionary.{entries, first_with, before, copy, entry_quad, set_at, del_at, dict_set, dict_del, dict_added}
+use Rattle.instr_table.specs.Deque.{Ends, ends, deque_quad, deque_after, pushed_front, pushed_back, Taking, turned_on, turned, taken_from, taking}
+use Rattle.instr_table.specs.Arithmetic.{falsy}
+use Rattle.instr_table.specs.Event.{Own, Effects, Behaviour, has_created}
+use Rattle.instr_table.specs.Sheet.{Account, runs}
+use Rattle.instr_table.specs.Outcome.{Outcome, Goes, Faults, Commits, Going, Row, gives}
+use Rattle.instr_table.specs.ActorRows.{become_row}
+use Rattle.instr_table.specs.SponsorRows.{grant_of, most_sponsors}
+use Rattle.instr_table.specs.Row.{row, row_at, item_of, own_word, dict_tested, deque_tested, popped, pulled}
+use Rattle.instr_table.specs.Reach.{Every, words_of, Reached, given, Got, plain, reached, Known, got, new, made_now}
+use Rattle.instr_table.specs.Laws.{words_at, CellKnown, EffectKnown, KeepsTo, HandsOn}
+use Rattle.instr_table.proofs.Charges.{length-linked}
+use Rattle.instr_table.proofs.GotWords.{pair_is, every-append, every-reverse, every-map, every-of, got-undef, got-nil, got-truth, got-fix, got-either, got-words, words-read, got-field, got-fields, got-nth, got-parted, got-item, got-top_items, got-rolled, got-items, GotEntry, got-entries, got-first_with, got-value, got-before, got-ends, got-compared, got-alu, got-complement}
+
+-- ---- cells that are linked, among those that an instruction makes
+
+module _ (s : Seen) (made : List Slot) (ws : List W) (payer : W) where
+  all-got : (xs : List W) → Every (Got s ws) xs → Every (Known s made ws) xs
+  all-got xs g = every-map (Got s ws) (Known s made ws) xs (λ w h. got h) g
+
+  pair-known : (x tail : W) → Got s ws x → Known s made ws tail → CellKnown s made ws payer (OpenSlot (pair_quad x tail))
+  pair-known x tail g h = (got (plain (omega arith)), (got g, (h, (got (got-undef s ws), tt))))
+
+  deque-known : (front back : W) → Known s made ws front → Known s made ws back → CellKnown s made ws payer (OpenSlot (deque_quad front back))
+  deque-known front back f b = (got (plain (omega arith)), (f, (b, (got (got-undef s ws), tt))))
+
+  copy-known : (e : Quad) (next : W) → GotEntry s ws e → Known s made ws next → CellKnown s made ws payer (OpenSlot (copy e next))
+  copy-known e next g h = (got (plain (omega arith)), (got g.1.0, (got g.1.1.0, (h, tt))))
+
+  linked-known : {A : Type 0} (P : A → Type 0) (f : A → W → Quad) (n : ℕ) (xs : List A) (tail : W) → ((x : A) (t : W) → P x → Known s made ws t → CellKnown s made ws payer (OpenSlot (f x t))) → next_quad s ≤ n → n + length xs ≤ next_quad s + length made → Every P xs → Known s made ws tail → Every (CellKnown s made ws payer) (linked f n xs tail)
+  linked-known P f n [] tail c low high g t = tt
+  linked-known P f n (x ∷ xs) tail c low high g t = (c x tail g.0 t, linked-known P f (suc n) xs (Ram n) c (omega arith) (omega arith) g.1 (new low (omega arith)))
+
+  last-known : {A : Type 0} (n : ℕ) (xs : List A) (tail : W) → next_quad s ≤ n → n + length xs ≤ next_quad s + length made → Known s made ws tail → Known s made ws (last_linked n xs tail)
+  last-known n [] tail low high t = t
+  last-known n (x ∷ xs) tail low high t = last-known (suc n) xs (Ram n) (omega arith) (omega arith) (new low (omega arith))
+
+  -- ---- what is taken from a deque
+
+  abbrev TakingKnown : Taking → Type 0
+  TakingKnown t = Every (CellKnown s made ws payer) t.cells × Known s made ws t.value × Known s made ws t.near × Known s made ws t.far
+
+  turned_on-known : (n : ℕ) (tail v : W) (vs : List W) → next_quad s ≤ n → n + suc (length vs) ≤ next_quad s + length made → Known s made ws tail → Got s ws v → Every (Got s ws) vs → TakingKnown (turned_on n tail v vs)
+  turned_on-known n tail v [] low high t g gs = ((pair-known v tail g t, tt), got g, t, got (got-nil s ws))
+  turned_on-known n tail v (w ∷ vs) low high t g gs =
+      let h = turned_on-known (suc n) (Ram n) w vs (omega arith) (omega arith) (new low (omega arith)) gs.0 gs.1 in
+      ((pair-known v tail g t, h.0), h.1, h.2, h.3)
+
+  length-turned_on : (n : ℕ) (tail v : W) (vs : List W) → length (turned_on n tail v vs).cells ≡ suc (length vs)
+  length-turned_on n tail v [] = refl
+  length-turned_on n tail v (w ∷ vs) = ap suc (length-turned_on (suc n) (Ram n) w vs)
+
+  turned-known : (vs : List W) → Every (Got s ws) vs → length (turned (next_quad s) vs).cells ≤ length made → TakingKnown (turned (next_quad s) vs)
+  turned-known [] g h = (tt, got (got-undef s ws), got (got-nil s ws), got (got-nil s ws))
+  turned-known (v ∷ vs) g h =
+      let l = length-turned_on (next_quad s) nil v vs in
+      turned_on-known (next_quad s) nil v vs (omega arith) (omega arith) (got (got-nil s ws)) g.0 g.1
+
+  taken_from-known : (o : Option Quad) (vs : List W) (far : W) → ((q : Quad) → o ≡ Some q → Every (Got s ws) (words_of q)) → Every (Got s ws) vs → Got s ws far → length (taken_from o (next_quad s) vs far).cells ≤ length made → TakingKnown (taken_from o (next_quad s) vs far)
+  taken_from-known (Some q) vs far w g f h = (tt, got (w q refl).1.0, got (w q refl).1.1.0, got f)
+  taken_from-known None vs far w g f h = turned-known vs g h
+
+  taking-known : (near far : W) → Got s ws near → Got s ws far → length (taking s (next_quad s) near far).cells ≤ length made → TakingKnown (taking s (next_quad s) near far)
+  unfolding taking
+  taking-known near far g f h = taken_from-known (pair_in (cell_seen s near)) (items s far) far (λ q e. words-read s ws near g q (pair_is (cell_seen s near) q e)) (got-items s ws longest far f) f h
+
+-- ---- what rows are made of
+
+module _ (s : Seen) (ws : List W) (payer : W) where
+  abbrev BuiltKnown : Built → Type 0
+  BuiltKnown b = Every (CellKnown s b.cells ws payer) b.cells × Known s b.cells ws b.word
+
+  chained-known : {A : Type 0} (P : A → Type 0) (f : A → W → Quad) (xs : List A) (tail : W) → ((made : List Slot) (x : A) (t : W) → P x → Known s made ws t → CellKnown s made ws payer (OpenSlot (f x t))) → Every P xs → Got s ws tail → BuiltKnown (chained f (next_quad s) xs tail)
+  chained-known P f xs tail c g t =
+      let made = linked f (next_quad s) xs tail in
+      let l = length-linked f (next_quad s) xs tail in
+      (linked-known s made ws payer P f (next_quad s) xs tail (c made) (omega arith) (omega arith) g (got t), last-known s made ws payer (next_quad s) xs tail (omega arith) (omega arith) (got t))
+
+  one-known : (q : Quad) → Every (Got s ws) (words_of q) → BuiltKnown (one_cell (next_quad s) q)
+  one-known q g = ((all-got s (OpenSlot q ∷ []) ws payer (words_of q) g, tt), new (omega arith) (omega arith))
+
+  deque_after-known : (cells : List Slot) (front back : W) → ((made : List Slot) → length cells ≤ length made → Every (CellKnown s made ws payer) cells × Known s made ws front × Known s made ws back) → BuiltKnown (deque_after (next_quad s) cells front back)
+  deque_after-known cells front back h =
+      let made = cells ++ OpenSlot (deque_quad front back) ∷ [] in
+      let l = length-append cells (OpenSlot (deque_quad front back) ∷ []) in
+      let k = h made (omega arith) in
+      (every-append (CellKnown s made ws payer) cells (OpenSlot (deque_quad front back) ∷ []) k.0 (deque-known s made ws payer front back k.1 k.2, tt), new (omega arith) (omega arith))
+
+  push-known : (d : Ends) (v : W) → Got s ws d.front × Got s ws d.back → Got s ws v → BuiltKnown (pushed_front (next_quad s) d v)
+  push-known d v g h = deque_after-known (OpenSlot (pair_quad v d.front) ∷ []) (Ram (next_quad s)) d.back (λ made l. ((pair-known s made ws payer v d.front h (got g.0), tt), new (omega arith) (omega arith), got g.1))
+
+  put-known : (d : Ends) (v : W) → Got s ws d.front × Got s ws d.back → Got s ws v → BuiltKnown (pushed_back (next_quad s) d v)
+  put-known d v g h = deque_after-known (OpenSlot (pair_quad v d.back) ∷ []) d.front (Ram (next_quad s)) (λ made l. ((pair-known s made ws payer v d.back h (got g.1), tt), got g.0, new (omega arith) (omega arith)))
+
+  either-known : (b : Bool) (x y : Built) → BuiltKnown x → BuiltKnown y → BuiltKnown (if b then x else y)
+  either-known true x y h k = h
+  either-known false x y h k = k
+
+  -- ---- dictionaries
+
+  entry-got : (key value next : W) → Got s ws key → Got s ws value → Got s ws next → GotEntry s ws (entry_quad key value next)
+  entry-got key value next k v n = (plain (omega arith), (k, (v, (n, tt))))
+
+  copies-known : (es : List Quad) (tail : W) → Every (GotEntry s ws) es → Got s ws tail → BuiltKnown (chained copy (next_quad s) es tail)
+  copies-known es tail g t = chained-known (GotEntry s ws) copy es tail (λ made e w h k. copy-known s made ws payer e w h k) g t
+
+  added-known : (w key value : W) → Got s ws w → Got s ws key → Got s ws value → BuiltKnown (dict_added (next_quad s) w key value)
+  added-known w key value g k v = one-known (entry_quad key value w) (entry-got key value w k v g)
+
+  set_at-known : (o : Option Quad) (es : List Quad) (w key value : W) → ((q : Quad) → o ≡ Some q → Every (Got s ws) (words_of q)) → Every (GotEntry s ws) es → Got s ws w → Got s ws key → Got s ws value → BuiltKnown (set_at o (next_quad s) es w key value)
+  set_at-known None es w key value o g h k v = added-known w key value h k v
+  set_at-known (Some e) es w key value o g h k v =
+      copies-known (entry_quad key value undef ∷ reverse (before key es)) e.z (entry-got key value undef k v (got-undef s ws), every-reverse (GotEntry s ws) (before key es) (got-before s ws key es g)) (o e refl).1.1.1.0
+
+  set-known : (w key value : W) → Got s ws w → Got s ws key → Got s ws value → BuiltKnown (dict_set s (next_quad s) w key value)
+  unfolding dict_set
+  set-known w key value g k v =
+      let es = got-entries s ws longest w g in
+      set_at-known (first_with key (entries s w)) (entries s w) w key value (got-first_with s ws key (entries s w) es) es g k v
+
+  del_at-known : (o : Option Quad) (es : List Quad) (w key : W) → ((q : Quad) → o ≡ Some q → Every (Got s ws) (words_of q)) → Every (GotEntry s ws) es → Got s ws w → BuiltKnown (del_at o (next_quad s) es w key)
+  del_at-known None es w key o g h = (tt, got h)
+  del_at-known (Some e) es w key o g h = copies-known (reverse (before key es)) e.z (every-reverse (GotEntry s ws) (before key es) (got-before s ws key es g)) (o e refl).1.1.1.0
+
+  del-known : (w key : W) → Got s ws w → BuiltKnown (dict_del s (next_quad s) w key)
+  unfolding dict_del
+  del-known w key g =
+      let es = got-entries s ws longest w g in
+      del_at-known (first_with key (entries s w)) (entries s w) w key (got-first_with s ws key (entries s w) es) es g
