@@ -2,6 +2,7 @@ mod Examples
 mod ListExamples
 mod EventExamples
 mod RoundTrip
+pub mod Spellings
 pub mod Charges
 pub mod GotWords
 pub mod KnownWords
