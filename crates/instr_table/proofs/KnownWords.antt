@@ -208,7 +208,7 @@ module _ (s : Seen) (ws : List W) (payer : W) where
 
   -- the rows, where the event got at its operand, its own words, its stack and the next code word
   module _ (own : Own) (sheet : List Account) (e : Effects) (vs : List W) (k : W) (g : Every (Got s ws) vs) (h : Got s ws k) (pays : own.sponsor ≡ payer) where
-    row-hands : (op : Op) → Got s ws (spelling op).1 → Got s ws own.actor → Got s ws own.code → Got s ws own.state → Got s ws own.message → Hands (row own op s sheet e vs k)
+    pub row-hands : (op : Op) → Got s ws (spelling op).1 → Got s ws own.actor → Got s ws own.code → Got s ws own.state → Got s ws own.message → Hands (row own op s sheet e vs k)
     row-hands (Push v) o a c t m = goes-hands 0 _ k (o, tt) h
     row-hands (Dup n) o a c t m = goes-hands 0 _ k (every-reverse (Got s ws) _ (got-top_items s ws (unsigned_abs n) vs g)) h
     row-hands (Drop n) o a c t m = goes-hands _ [] k tt h

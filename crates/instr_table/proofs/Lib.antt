@@ -6,3 +6,4 @@ pub mod Spellings
 pub mod Charges
 pub mod GotWords
 pub mod KnownWords
+pub mod Authorities
