@@ -272,3 +272,10 @@ module _ (s : Seen) (ws : List W) (payer : W) where
     row-hands SponsorStop o a c t m = either-hands (is_sponsor s (item vs 1)) _ _ (does-hands 0 k _ (got (got-item s ws vs 1 g)) h) (fault-hands 19)
     row-hands (Assert v) o a c t m = either-hands (same_word (item vs 1) v) _ _ (goes-hands 1 [] k tt h) (fault-hands 17)
     row-hands Debug o a c t m = goes-hands 0 [] k tt h
+
+-- with the words that the event has at the operation
+pub row-keeps : (own : Own) (op : Op) (s : Seen) (sheet : List Account) (e : Effects) (vs : List W) (k : W) → HandsOn s (words_at own op vs k) own.sponsor (row own op s sheet e vs k).outcome
+row-keeps own op s sheet e vs k =
+    let ws = words_at own op vs k in
+    let all : Every (Got s ws) ws = every-of (Got s ws) ws (λ w a. reached (given a)) in
+    row-hands s ws own.sponsor own sheet e vs k all.1.1.1.1.1.1 all.1.0 refl op all.0 all.1.1.0 all.1.1.1.0 all.1.1.1.1.0 all.1.1.1.1.1.0

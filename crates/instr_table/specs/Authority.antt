@@ -76,3 +76,6 @@ IsMadeBy s g w = (i : ℕ) × (w ≡ Cap (next_quad s + i)) × IsTrue (is_made (
 -- RAM word still names a quad that is taken
 abbrev pub KeepsAuthority : Seen → List Account → Lane → Type 0
 KeepsAuthority s sheet l = (g : Going) → (lane_row s sheet l).outcome ≡ Goes g → AllTaken s l → AllTaken (after_going s l.stack g).0 (gone s l g) × ((w : W) → Reach (after_going s l.stack g).0 (lane_words (gone s l g)) w → Reach s (lane_words l) w ⊎ IsMadeBy s g w)
+
+abbrev pub EachKeepsAuthority : Type 0
+EachKeepsAuthority = (s : Seen) (sheet : List Account) (l : Lane) → KeepsAuthority s sheet l

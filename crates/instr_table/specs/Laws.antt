@@ -1,13 +1,15 @@
 -- What is so of every row of the table.
-use Rattle.std.specs.Prelude.{◌≡◌, ℕ, ◌+◌, ◌≤◌, ◌⊎◌, true, List, [], ◌∷◌, ◌++◌, length, Option, Some, None, IfSome}
+use Rattle.std.specs.Prelude.{◌≡◌, ℕ, ◌+◌, ◌≤◌, ◌⊎◌, true, List, [], ◌∷◌, ◌++◌, length, IsTrue, Option, Some, None, IfSome}
 use Rattle.cap_words.specs.Words.{W, Cap}
 use Rattle.cap_words.specs.Seen.{Seen, Slot, OpenSlot, ActorSlot, UnbornSlot, EventSlot, SponsorSlot, SpentSlot}
 use Rattle.instr_table.specs.declared.charge.Charge.{Charge}
 use Rattle.instr_table.specs.declared.op.Op.{Op}
 use Rattle.instr_table.specs.Lists.{next_quad}
-use Rattle.instr_table.specs.Spelling.{charge_of, spelling}
+use Rattle.instr_table.specs.Spelling.{is_op, charge_of, spelling}
 use Rattle.instr_table.specs.Event.{Own, Effects, Effect, Nothing, Sends, Creates, Assigns, Becomes, Sponsors, Grants, Reclaims, Starts, Stops, has_created}
+use Rattle.instr_table.specs.Sheet.{Account}
 use Rattle.instr_table.specs.Outcome.{Going, Outcome, Goes, Faults, Commits, Row, events_in}
+use Rattle.instr_table.specs.Row.{row, row_at}
 use Rattle.instr_table.specs.Reach.{Every, words_of, Known}
 
 -- the charge is the one of the table's column, where that has one
@@ -37,6 +39,16 @@ abbrev pub AssignsOwn : Effects → Outcome → Type 0
 AssignsOwn e (Goes g) = OwnIn e g.effect
 AssignsOwn e (Faults w) = Unit {0}
 AssignsOwn e Commits = Unit {0}
+
+-- each row charges what the table says, takes no more, and assigns only to an actor that its event created
+abbrev pub ChargesAsListed : Type 0
+ChargesAsListed = (own : Own) (op : Op) (s : Seen) (sheet : List Account) (e : Effects) (vs : List W) (k : W) → IsTrue (is_op op) → IsCharged op (row own op s sheet e vs k)
+
+abbrev pub TakesWhatItCharges : Type 0
+TakesWhatItCharges = (own : Own) (o : Option (Op × W)) (s : Seen) (sheet : List Account) (e : Effects) (vs : List W) → Covers (row_at own o s sheet e vs).charge (row_at own o s sheet e vs).outcome
+
+abbrev pub AssignsToOwn : Type 0
+AssignsToOwn = (own : Own) (o : Option (Op × W)) (s : Seen) (sheet : List Account) (e : Effects) (vs : List W) → AssignsOwn e (row_at own o s sheet e vs).outcome
 
 -- ---- which words an instruction hands on
 
@@ -83,3 +95,7 @@ abbrev pub HandsOn : Seen → List W → W → Outcome → Type 0
 HandsOn s ws payer (Goes g) = KeepsTo s ws payer g
 HandsOn s ws payer (Faults w) = Known s [] ws w
 HandsOn s ws payer Commits = Unit {0}
+
+-- each row hands on words that its event had at it, words of cells that these name, and those that it made
+abbrev pub HandsOnWhatItHas : Type 0
+HandsOnWhatItHas = (own : Own) (op : Op) (s : Seen) (sheet : List Account) (e : Effects) (vs : List W) (k : W) → HandsOn s (words_at own op vs k) own.sponsor (row own op s sheet e vs k).outcome

@@ -7,9 +7,11 @@
 mod charge;
 mod decoding;
 mod encoding;
+mod laws;
 mod op;
 
 pub use charge::{Charge, Quota, op_charge};
 pub use decoding::decode;
 pub use encoding::encode;
+pub use laws::{assigns_to_own, charges_as_listed, hands_on_what_it_has, keeps_authority, takes_what_it_charges};
 pub use op::Op;
