@@ -269,7 +269,7 @@ dropped-values P zero is h = h
 dropped-values P (suc n) [] h = tt
 dropped-values P (suc n) (i ∷ is) h = dropped-values P n is h.1
 
-pushed-store : (p : Seen × List Item) (vs : List W) → (cells : List Slot) × ((push_all p vs).0 ≡ grown p.0 cells)
+pub pushed-store : (p : Seen × List Item) (vs : List W) → (cells : List Slot) × ((push_all p vs).0 ≡ grown p.0 cells)
 pushed-store p [] = ([], ap (λ (xs : List Slot). record p.0 { slots = xs }) (sym (append-nil p.0.slots)))
 pushed-store p (v ∷ vs) =
     let h = pushed-store (push_one p v) vs in

@@ -1,15 +1,17 @@
 -- What is so of every row of the table.
-use Rattle.std.specs.Prelude.{◌≡◌, ℕ, ◌+◌, ◌≤◌, ◌⊎◌, true, List, [], ◌∷◌, ◌++◌, length, IsTrue, Option, Some, None, IfSome}
+use Rattle.std.specs.Prelude.{◌≡◌, ℕ, ◌+◌, ◌≤◌, ◌⊎◌, true, List, [], ◌∷◌, ◌++◌, length, IsTrue, Option, Some, None, IfSome, slice_get}
 use Rattle.cap_words.specs.Words.{W, Cap}
-use Rattle.cap_words.specs.Seen.{Seen, Slot, OpenSlot, ActorSlot, UnbornSlot, EventSlot, SponsorSlot, SpentSlot}
+use Rattle.cap_words.specs.Seen.{Seen, Slot, OpenSlot, ActorSlot, UnbornSlot, EventSlot, SponsorSlot, SpentSlot, open_in, altered}
 use Rattle.instr_table.specs.declared.charge.Charge.{Charge}
 use Rattle.instr_table.specs.declared.op.Op.{Op}
+use Rattle.instr_table.specs.Types.{opaque_in, Grows}
 use Rattle.instr_table.specs.Lists.{next_quad}
 use Rattle.instr_table.specs.Spelling.{is_op, charge_of, spelling}
 use Rattle.instr_table.specs.Event.{Own, Effects, Effect, Nothing, Sends, Creates, Assigns, Becomes, Sponsors, Grants, Reclaims, Starts, Stops, has_created}
 use Rattle.instr_table.specs.Sheet.{Account}
 use Rattle.instr_table.specs.Outcome.{Going, Outcome, Goes, Faults, Commits, Row, events_in}
 use Rattle.instr_table.specs.Row.{row, row_at}
+use Rattle.instr_table.specs.Lane.{Item, after_going}
 use Rattle.instr_table.specs.Reach.{Every, words_of, Known}
 
 -- the charge is the one of the table's column, where that has one
@@ -49,6 +51,18 @@ TakesWhatItCharges = (own : Own) (o : Option (Op × W)) (s : Seen) (sheet : List
 
 abbrev pub AssignsToOwn : Type 0
 AssignsToOwn = (own : Own) (o : Option (Op × W)) (s : Seen) (sheet : List Account) (e : Effects) (vs : List W) → AssignsOwn e (row_at own o s sheet e vs).outcome
+
+-- ---- what a store shows
+
+-- what a word shows it shows after each instruction, and after a quad was changed whose words and kind are still shown
+abbrev pub ShownStays : Type 0
+ShownStays = (s : Seen) (is : List Item) (g : Going) → Grows s (after_going s is g).0
+
+abbrev pub ShowsTheSame : Slot → Slot → Type 0
+ShowsTheSame a b = (open_in (Some b) ≡ open_in (Some a)) × (opaque_in (Some b) ≡ opaque_in (Some a))
+
+abbrev pub ChangesKeepShown : Type 0
+ChangesKeepShown = (s : Seen) (n : ℕ) (a b : Slot) → slice_get s.slots n ≡ Some a → ShowsTheSame a b → Grows s (altered s n b)
 
 -- ---- which words an instruction hands on
 

@@ -1,6 +1,6 @@
 // What is so of every row of the table.
 
-ghost use Rattle.instr_table.specs.Laws.{ChargesAsListed, TakesWhatItCharges, AssignsToOwn, HandsOnWhatItHas};
+ghost use Rattle.instr_table.specs.Laws.{ChargesAsListed, TakesWhatItCharges, AssignsToOwn, HandsOnWhatItHas, ShownStays, ChangesKeepShown};
 ghost use Rattle.instr_table.specs.Authority.{EachKeepsAuthority};
 
 /// Each row charges what `op_charge` says of its operation, where that says something.
@@ -32,5 +32,17 @@ pub fn hands_on_what_it_has()
 /// on that each RAM word names a quad that is taken, which each instruction keeps.
 pub fn keeps_authority()
     ensures { EachKeepsAuthority }
+{
+}
+
+/// What a word shows, the words of a cell, an actor or a sponsor, it shows after each instruction.
+pub fn shown_stays()
+    ensures { ShownStays }
+{
+}
+
+/// What a word shows, it shows after a quad was changed into one with the same words, where it is readable, and of the same kind.
+pub fn changes_keep_shown()
+    ensures { ChangesKeepShown }
 {
 }
