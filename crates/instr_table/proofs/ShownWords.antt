@@ -1,10 +1,10 @@
 -- What a word shows, it shows from then on.
-use Rattle.std.proofs.Common.{◌≡◌, ℕ, ◌<◌, List, ◌++◌, length, Option, Some, None, option_map, refl, ◌∙◌, ap, subst, sym, drop, inl, inr, slice_get, slice_set}
+use Rattle.std.proofs.Common.{◌≡◌, ℕ, List, ◌++◌, Option, Some, None, option_map, refl, ◌∙◌, ap, subst, sym, drop, inl, inr, slice_get, slice_set}
 use Rattle.std.proofs.lemmas.Bool.{cases_eq}
 use Rattle.std.proofs.lemmas.Option.{slice_get_within}
 use Rattle.cap_words.specs.declared.word.Quad.{Quad}
 use Rattle.cap_words.specs.Words.{W, Fix, Rom, Ram, Cap}
-use Rattle.cap_words.specs.Seen.{Seen, Slot, cell_seen, open_in, grown, altered}
+use Rattle.cap_words.specs.Seen.{Seen, Slot, open_in, grown, altered}
 use Rattle.cap_words.proofs.Places.{get-left, get-set_same, get-set_other}
 use Rattle.instr_table.specs.Types.{Shown, Readable, opaque_in, look_up, Grows}
 use Rattle.instr_table.specs.Outcome.{Going}

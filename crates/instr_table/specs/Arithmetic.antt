@@ -1,5 +1,5 @@
 -- Comparison and arithmetic on words.
-use Rattle.std.specs.Prelude.{ℕ, ◌-◌, ◌^◌, nat_lt, nat_eq, if◌then◌else◌, ℤ, pos, negsuc, ◌+ℤ◌, ◌-ℤ◌, ◌*ℤ◌, int_lt, int_le, bit_and, bit_or, bit_xor, Bool, true, false, not}
+use Rattle.std.specs.Prelude.{ℕ, ◌-◌, ◌^◌, nat_lt, if◌then◌else◌, ℤ, pos, negsuc, ◌+ℤ◌, ◌-ℤ◌, ◌*ℤ◌, int_lt, int_le, bit_and, bit_or, bit_xor, Bool, false, not}
 use Rattle.std.specs.Ordering.{int_eq}
 use Rattle.cap_words.specs.Words.{W, Fix, Rom, Ram, Cap, same_word, undef, truth}
 use Rattle.cap_words.specs.Fixnums.{wrap}

@@ -1,8 +1,8 @@
 -- Which quads spell which operations.
-use Rattle.std.specs.Prelude.{ℕ, nat_eq, nat_le, if◌then◌else◌, ℤ, pos, negsuc, int_le, unsigned_abs, Bool, true, ◌&&◌, ◌||◌, Option, Some, None, option_map}
+use Rattle.std.specs.Prelude.{ℕ, nat_eq, nat_le, if◌then◌else◌, ℤ, pos, negsuc, int_le, unsigned_abs, Bool, ◌&&◌, ◌||◌, Option, Some, None, option_map}
 use Rattle.std.specs.Ordering.{int_eq}
 use Rattle.cap_words.specs.declared.word.Quad.{Quad}
-use Rattle.cap_words.specs.Words.{W, Fix, same_word, number_of, undef, instr_t}
+use Rattle.cap_words.specs.Words.{W, same_word, number_of, undef, instr_t}
 use Rattle.cap_words.specs.Seen.{Seen, cell_seen}
 use Rattle.instr_table.specs.declared.op.Op.{Op}
 use Rattle.instr_table.specs.declared.op.Op.TheVariants.{Push, Dup, Drop, Pick, Roll, Depth, Pair, Part, Nth, QuadMake, QuadTake, Get, Typeq, Eq, Cmp, AluNot, Alu, If, Jump, Msg, State, My, ActorSend, ActorPost, ActorCreate, ActorAssign, ActorBecome, End, DictTest, DictPut, DictDel, DequeNew, DequeTest, DequePut, DequeTake, SponsorNew, SponsorGrant, SponsorReclaim, SponsorStart, SponsorStop, Assert, Debug}

@@ -1,5 +1,5 @@
 -- Dictionaries: lists of entries, of which the first one with a key counts.
-use Rattle.std.specs.Prelude.{ℕ, zero, suc, if◌then◌else◌, Bool, List, [], ◌∷◌, reverse, Option, Some, None}
+use Rattle.std.specs.Prelude.{ℕ, zero, suc, if◌then◌else◌, List, [], ◌∷◌, reverse, Option, Some, None}
 use Rattle.cap_words.specs.declared.word.Quad.{Quad}
 use Rattle.cap_words.specs.Words.{W, same_word, undef, dict_t}
 use Rattle.cap_words.specs.Seen.{Seen, cell_seen}

@@ -1,5 +1,5 @@
 -- What is so of every row of the table.
-use Rattle.std.specs.Prelude.{◌≡◌, ℕ, ◌+◌, ◌≤◌, ◌⊎◌, true, List, [], ◌∷◌, ◌++◌, length, IsTrue, Option, Some, None, IfSome, slice_get}
+use Rattle.std.specs.Prelude.{◌≡◌, ℕ, ◌+◌, ◌≤◌, ◌⊎◌, true, List, [], ◌∷◌, length, IsTrue, Option, Some, IfSome, slice_get}
 use Rattle.cap_words.specs.Words.{W, Cap}
 use Rattle.cap_words.specs.Seen.{Seen, Slot, OpenSlot, ActorSlot, UnbornSlot, EventSlot, SponsorSlot, SpentSlot, open_in, altered}
 use Rattle.instr_table.specs.declared.charge.Charge.{Charge}

@@ -1,5 +1,5 @@
 -- Stacks as plain lists, and lists of linked cells.
-use Rattle.std.specs.Prelude.{ℕ, zero, suc, ◌-◌, if◌then◌else◌, ℤ, pos, negsuc, unsigned_abs, List, [], ◌∷◌, ◌++◌, length, reverse, drop, Option, Some, None, get_or}
+use Rattle.std.specs.Prelude.{ℕ, zero, suc, ◌-◌, if◌then◌else◌, ℤ, pos, negsuc, List, [], ◌∷◌, ◌++◌, length, drop, Option, Some, None, get_or}
 use Rattle.cap_words.specs.declared.word.Quad.{Quad}
 use Rattle.cap_words.specs.Words.{W, Ram, same_word, undef, pair_t}
 use Rattle.cap_words.specs.Seen.{Seen, Slot, OpenSlot, cell_seen}

@@ -1,5 +1,5 @@
 -- The instruction table: one case for each operation.
-use Rattle.std.specs.Prelude.{ℕ, zero, suc, ◌+◌, nat_le, if◌then◌else◌, ℤ, pos, negsuc, unsigned_abs, Bool, List, [], ◌∷◌, length, reverse, Option, Some, None, is_some}
+use Rattle.std.specs.Prelude.{ℕ, suc, nat_le, if◌then◌else◌, ℤ, pos, unsigned_abs, List, [], ◌∷◌, length, reverse, Option, Some, None, is_some}
 use Rattle.std.specs.Ordering.{int_eq}
 use Rattle.cap_words.specs.declared.word.Quad.{Quad}
 use Rattle.cap_words.specs.Words.{W, Fix, same_word, undef, nil, truth}
@@ -13,7 +13,7 @@ use Rattle.instr_table.specs.Deque.{ends, deque_quad, is_empty, deque_len, deque
 use Rattle.instr_table.specs.Arithmetic.{falsy, compared, alu, complement}
 use Rattle.instr_table.specs.Event.{Own, Effects, Nothing}
 use Rattle.instr_table.specs.Sheet.{Account}
-use Rattle.instr_table.specs.Outcome.{Goes, Faults, Commits, Row, charge, does, goes, gives, ends_with, faults, bad_instruction, assertion_failed, was_stopped}
+use Rattle.instr_table.specs.Outcome.{Commits, Row, charge, does, goes, gives, ends_with, faults, bad_instruction, assertion_failed, was_stopped}
 use Rattle.instr_table.specs.ActorRows.{send_row, post_row, create_row, assign_row, become_row}
 use Rattle.instr_table.specs.SponsorRows.{new_row, kind_of_grant, grant_row, reclaim_row, start_row, stop_row}
 

@@ -1,6 +1,6 @@
 -- The sheet: what each sponsor received, passed on, spent and holds of each kind, and whether it runs.
 use Rattle.std.specs.Prelude.{◌≡◌, ℕ, ◌+◌, ◌-◌, nat_lt, if◌then◌else◌, Bool, true, false, List, [], ◌∷◌, ◌++◌, Option, Some, None}
-use Rattle.cap_words.specs.Words.{W, same_word, undef}
+use Rattle.cap_words.specs.Words.{W, same_word}
 use Rattle.instr_table.specs.declared.charge.Charge.{Charge}
 use Rattle.instr_table.specs.declared.charge.Quota.{Quota}
 use Rattle.instr_table.specs.declared.charge.Quota.TheVariants.{Memory, Events, Cycles}

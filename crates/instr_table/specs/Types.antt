@@ -1,5 +1,5 @@
 -- What a program can tell of a word.
-use Rattle.std.specs.Prelude.{◌≡◌, ℕ, nat_lt, if◌then◌else◌, ℤ, pos, Bool, true, false, ◌&&◌, ◌||◌, Option, Some, None, option_map}
+use Rattle.std.specs.Prelude.{◌≡◌, nat_lt, if◌then◌else◌, ℤ, pos, Bool, true, false, ◌&&◌, ◌||◌, Option, Some, None, option_map}
 use Rattle.cap_words.specs.declared.word.Quad.{Quad}
 use Rattle.cap_words.specs.Words.{W, Fix, Rom, Ram, Cap, same_word, number_of, undef, type_t, fixnum_t, actor_t, sponsor_t, func_t, block_t}
 use Rattle.cap_words.specs.Seen.{Seen, Slot, OpenSlot, ActorSlot, UnbornSlot, EventSlot, SponsorSlot, SpentSlot, cell_seen, slot_seen}

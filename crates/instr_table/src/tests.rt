@@ -77,7 +77,10 @@ fn numbers_spell_operations(rt: HostRuntime) {
         (24, 6, Op::SponsorStop),
     ];
     for (number, operand, op) in rows {
-        assert!(rt; decoded_number(number, operand) == Some(op), "at {number}, {operand}");
+        assert!(rt;
+            decoded_number(number, operand) == Some(op),
+            "at {number}, {operand}"
+        );
         let operand = Word::fix(operand).expect(&rt, "a number in range");
         assert!(rt; returns(number, operand), "at {number}");
     }
@@ -128,10 +131,22 @@ fn operands_lie_in_their_ranges(rt: HostRuntime) {
         assert!(rt; decoded_number(number, low).is_some(), "at {number}");
         assert!(rt; decoded_number(number, high).is_some(), "at {number}");
         assert!(rt; decoded_number(number, low - 1).is_none(), "below {number}");
-        assert!(rt; decoded_number(number, high + 1).is_none(), "above {number}");
+        assert!(rt;
+            decoded_number(number, high + 1).is_none(),
+            "above {number}"
+        );
         assert!(rt; decoded(number, Word::UNDEF).is_none(), "at {number}");
     }
-    for (number, operand) in [(4, 0), (9, 0), (5, 0), (16, 0), (26, 0), (27, 0), (-1, 0), (1 << 29, 0)] {
+    for (number, operand) in [
+        (4, 0),
+        (9, 0),
+        (5, 0),
+        (16, 0),
+        (26, 0),
+        (27, 0),
+        (-1, 0),
+        (1 << 29, 0),
+    ] {
         assert!(rt; decoded_number(number, operand).is_none(), "at {number}");
     }
     assert!(rt; decoded(27, Word::UNDEF).is_none());
@@ -154,10 +169,7 @@ fn only_instruction_cells_spell(rt: HostRuntime) -> Result<(), Fail> {
         ..q
     };
     assert!(rt; decode(pair).is_none());
-    let unnumbered = Quad {
-        x: Word::NIL,
-        ..q
-    };
+    let unnumbered = Quad { x: Word::NIL, ..q };
     assert!(rt; decode(unnumbered).is_none());
     Ok(())
 }
