@@ -39,6 +39,7 @@ low_bits (negsuc n) = 2 ^ 31 - 1 - n
 abbrev pub of_low_bits : ℕ → ℤ
 of_low_bits b = if nat_lt b (2 ^ 30) then pos b else negsuc (2 ^ 31 - 1 - b)
 
+-- a calculation on the bits of two numbers
 abbrev pub bitwise : (ℕ → ℕ → ℕ) → ℤ → ℤ → ℤ
 bitwise f n m = of_low_bits (f (low_bits n) (low_bits m))
 

@@ -10,6 +10,7 @@ pub record Ends : Type 0 where
   pub front : W
   pub back : W
 
+-- the words of a deque's cell
 abbrev pub deque_quad : W → W → Quad
 deque_quad front back = record { t = deque_t; x = front; y = back; z = undef }
 
@@ -18,6 +19,7 @@ abbrev pub ends_in : Option Quad → Ends
 ends_in None = record { front = nil; back = nil }
 ends_in (Some q) = if same_word q.t deque_t then record { front = q.x; back = q.y } else record { front = nil; back = nil }
 
+-- the first words of the lists of what a word names
 abbrev pub ends : Seen → W → Ends
 ends s w = ends_in (cell_seen s w)
 
@@ -25,6 +27,7 @@ ends s w = ends_in (cell_seen s w)
 abbrev pub deque_len : Seen → W → ℕ
 deque_len s w = length (items s (ends s w).front) + length (items s (ends s w).back)
 
+-- whether it has no items
 abbrev pub is_empty : Seen → W → Bool
 is_empty s w = nat_eq (deque_len s w) 0
 
@@ -61,5 +64,6 @@ abbrev pub taken_from : Option Quad → ℕ → List W → W → Taking
 taken_from (Some q) n far_items far = record { cells = []; value = q.x; near = q.y; far = far }
 taken_from None n far_items far = turned n far_items
 
+-- what is taken from the end that is near: the front for `pop`, the back for `pull`
 unfoldable pub taking : Seen → ℕ → W → W → Taking
 taking s n near far = taken_from (pair_in (cell_seen s near)) n (items s far) far

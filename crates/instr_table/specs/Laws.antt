@@ -24,6 +24,7 @@ Covers c (Goes g) = (length g.made + length g.pushed ≤ c.quads) × (events_in 
 Covers c (Faults w) = Unit {0}
 Covers c Commits = Unit {0}
 
+-- where an effect assigns, it is to an actor of this record
 abbrev pub OwnIn : Effects → Effect → Type 0
 OwnIn e Nothing = Unit {0}
 OwnIn e (Sends m) = Unit {0}
@@ -46,9 +47,11 @@ AssignsOwn e Commits = Unit {0}
 abbrev pub ChargesAsListed : Type 0
 ChargesAsListed = (own : Own) (op : Op) (s : Seen) (sheet : List Account) (e : Effects) (vs : List W) (k : W) → IsTrue (is_op op) → IsCharged op (row own op s sheet e vs k)
 
+-- for every row, that of a bad instruction included
 abbrev pub TakesWhatItCharges : Type 0
 TakesWhatItCharges = (own : Own) (o : Option (Op × W)) (s : Seen) (sheet : List Account) (e : Effects) (vs : List W) → Covers (row_at own o s sheet e vs).charge (row_at own o s sheet e vs).outcome
 
+-- for every row
 abbrev pub AssignsToOwn : Type 0
 AssignsToOwn = (own : Own) (o : Option (Op × W)) (s : Seen) (sheet : List Account) (e : Effects) (vs : List W) → AssignsOwn e (row_at own o s sheet e vs).outcome
 
@@ -58,6 +61,7 @@ AssignsToOwn = (own : Own) (o : Option (Op × W)) (s : Seen) (sheet : List Accou
 abbrev pub ShownStays : Type 0
 ShownStays = (s : Seen) (is : List Item) (g : Going) → Grows s (after_going s is g).0
 
+-- a quad's words, where it is readable, and else its kind are as before
 abbrev pub ShowsTheSame : Slot → Slot → Type 0
 ShowsTheSame a b = (open_in (Some b) ≡ open_in (Some a)) × (opaque_in (Some b) ≡ opaque_in (Some a))
 
@@ -105,6 +109,7 @@ pub record KeepsTo (s : Seen) (ws : List W) (payer : W) (g : Going) : Type 0 whe
   pub cells : Every (CellKnown s g.made ws payer) g.made
   pub effect : EffectKnown s g.made ws payer g.effect
 
+-- what a row hands on; a fault hands on its reason
 abbrev pub HandsOn : Seen → List W → W → Outcome → Type 0
 HandsOn s ws payer (Goes g) = KeepsTo s ws payer g
 HandsOn s ws payer (Faults w) = Known s [] ws w

@@ -42,6 +42,7 @@ abbrev pub last_linked : {A : Type 0} → ℕ → List A → W → W
 last_linked n [] tail = tail
 last_linked n (x ∷ xs) tail = last_linked (suc n) xs (Ram n)
 
+-- such cells, as a result
 abbrev pub chained : {A : Type 0} → (A → W → Quad) → ℕ → List A → W → Built
 chained cell_for n xs tail = record { cells = linked cell_for n xs tail; word = last_linked n xs tail }
 
@@ -51,6 +52,7 @@ one_cell n q = record { cells = OpenSlot q ∷ []; word = Ram n }
 
 -- ---- pairs
 
+-- the words of a pair's cell
 abbrev pub pair_quad : W → W → Quad
 pair_quad head tail = record { t = pair_t; x = head; y = tail; z = undef }
 

@@ -20,6 +20,7 @@ pub data Reached (s : Seen) (ws : List W) : W → Type 0 where
   given : {w : W} → Among w ws → Reached s ws w
   inside : {v w : W} {q : Quad} → Reached s ws w → cell_seen s w ≡ Some q → Among v (words_of q) → Reached s ws v
 
+-- the word of an actor, a sponsor or an event
 abbrev pub IsOpaque : W → Type 0
 IsOpaque (Fix n) = ⊥
 IsOpaque (Rom n) = ⊥

@@ -102,6 +102,7 @@ spelling Debug = (26, undef)
 abbrev pub spelled : Op → W → Quad
 spelled op next = record { t = instr_t; x = Fix (pos (spelling op).0); y = (spelling op).1; z = next }
 
+-- a charge of so many quads and events
 abbrev pub costs : ℕ → ℕ → Option Charge
 costs quads events = Some (record { quads = quads; events = events })
 

@@ -32,6 +32,7 @@ grantable None most = None
 grantable (Some (pos n)) most = if nat_le n most then Some n else None
 grantable (Some (negsuc n)) most = None
 
+-- the row of a grant of that number, where it is one
 abbrev pub grant_of : Option ℕ → Quota → Seen → W → W → Row
 grant_of None kind s sponsor k = faults 0 0 short_of
 grant_of (Some n) kind s sponsor k = if is_sponsor s sponsor then does 1 [] [] k (Grants sponsor kind n) else faults 0 0 not_sponsor

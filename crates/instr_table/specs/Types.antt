@@ -50,6 +50,7 @@ type_in None w = plain_type w
 abbrev pub type_of : Seen → W → Option W
 type_of s w = type_in (look_up s w) w
 
+-- whether it is this type
 abbrev pub is_type : Option W → W → Bool
 is_type None t = false
 is_type (Some u) t = same_word u t
@@ -61,6 +62,7 @@ shows_actor (Some (Readable q)) = false
 shows_actor (Some AnActor) = true
 shows_actor (Some ASponsor) = false
 
+-- whether a sponsor is shown
 abbrev pub shows_sponsor : Option Shown → Bool
 shows_sponsor None = false
 shows_sponsor (Some (Readable q)) = false
