@@ -219,3 +219,14 @@ fn operations_cost_quads_and_events(rt: HostRuntime) {
         assert_eq!(rt; op_charge(op), charge);
     }
 }
+
+#[test]
+fn laws_have_no_body(_rt: HostRuntime) {
+    charges_as_listed();
+    takes_what_it_charges();
+    assigns_to_own();
+    hands_on_what_it_has();
+    keeps_authority();
+    shown_stays();
+    changes_keep_shown();
+}
