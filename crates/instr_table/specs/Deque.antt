@@ -1,5 +1,6 @@
 -- Deques: a front list, and a back list that is kept reversed.
-use Rattle.std.specs.Prelude.{ℕ, suc, ◌+◌, nat_eq, if◌then◌else◌, Bool, List, [], ◌∷◌, ◌++◌, length, Option, Some, None}
+use Rattle.std.specs.Prelude.{ℕ, suc, ◌+◌, nat_eq, if◌then◌else◌, ℤ, pos, Bool, List, [], ◌∷◌, ◌++◌, length, Option, Some, None}
+use Rattle.std.specs.Ordering.{int_eq}
 use Rattle.cap_words.specs.declared.word.Quad.{Quad}
 use Rattle.cap_words.specs.Words.{W, Ram, same_word, undef, nil, deque_t}
 use Rattle.cap_words.specs.Seen.{Seen, Slot, OpenSlot, cell_seen}
@@ -35,12 +36,17 @@ is_empty s w = nat_eq (deque_len s w) 0
 abbrev pub deque_after : ℕ → List Slot → W → W → Built
 deque_after n cells front back = record { cells = cells ++ OpenSlot (deque_quad front back) ∷ []; word = Ram (n + length cells) }
 
--- a value put at the front, or at the back
+-- a value put at the front
 abbrev pub pushed_front : ℕ → Ends → W → Built
 pushed_front n d v = deque_after n (OpenSlot (pair_quad v d.front) ∷ []) (Ram n) d.back
 
+-- a value put at the back
 abbrev pub pushed_back : ℕ → Ends → W → Built
 pushed_back n d v = deque_after n (OpenSlot (pair_quad v d.back) ∷ []) d.front (Ram n)
+
+-- `push`, or `put`, by its number
+abbrev pub deque_put : ℤ → ℕ → Ends → W → Built
+deque_put k n d v = if int_eq k (pos 2) then pushed_front n d v else pushed_back n d v
 
 -- what is taken from one end: the cells of a list that was turned round, the value, and the two lists after it
 pub record Taking : Type 0 where
@@ -52,7 +58,7 @@ pub record Taking : Type 0 where
 -- one pair for each item of the far list, of which the last is taken; the first one is of v, before that tail
 abbrev pub turned_on : ℕ → W → W → List W → Taking
 turned_on n tail v [] = record { cells = OpenSlot (pair_quad v tail) ∷ []; value = v; near = tail; far = nil }
-turned_on n tail v (w ∷ ws) = record (turned_on (suc n) (Ram n) w ws) { cells = OpenSlot (pair_quad v tail) ∷ (turned_on (suc n) (Ram n) w ws).cells }
+turned_on n tail v (w ∷ ws) = let t : Taking = turned_on (suc n) (Ram n) w ws in record t { cells = OpenSlot (pair_quad v tail) ∷ t.cells }
 
 -- the far list turned round into a new near list, of which the first item is taken
 abbrev pub turned : ℕ → List W → Taking

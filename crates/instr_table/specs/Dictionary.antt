@@ -1,5 +1,6 @@
 -- Dictionaries: lists of entries, of which the first one with a key counts.
-use Rattle.std.specs.Prelude.{ℕ, zero, suc, if◌then◌else◌, List, [], ◌∷◌, reverse, Option, Some, None}
+use Rattle.std.specs.Prelude.{ℕ, zero, suc, if◌then◌else◌, ℤ, pos, List, [], ◌∷◌, reverse, Option, Some, None}
+use Rattle.std.specs.Ordering.{int_eq}
 use Rattle.cap_words.specs.declared.word.Quad.{Quad}
 use Rattle.cap_words.specs.Words.{W, same_word, undef, dict_t}
 use Rattle.cap_words.specs.Seen.{Seen, cell_seen}
@@ -57,6 +58,10 @@ set_at (Some e) n es w key value = chained copy n (entry_quad key value undef �
 -- `set` on a dictionary; its cells are taken from n on
 unfoldable pub dict_set : Seen → ℕ → W → W → W → Built
 dict_set s n w key value = set_at (first_with key (entries s w)) n (entries s w) w key value
+
+-- `add`, or `set`, by its number
+abbrev pub dict_put : ℤ → Seen → ℕ → W → W → W → Built
+dict_put k s n w key value = if int_eq k (pos 3) then dict_set s n w key value else dict_added n w key value
 
 -- the first entry with the key left out, and those before it copied; or the dictionary as it stands
 abbrev pub del_at : Option Quad → ℕ → List Quad → W → W → Built
