@@ -1,0 +1,17 @@
+pub mod Code
+pub mod Spelling
+pub mod Types
+pub mod Lists
+pub mod Dictionary
+pub mod Deque
+pub mod Arithmetic
+pub mod Event
+pub mod Sheet
+pub mod Outcome
+pub mod ActorRows
+pub mod SponsorRows
+pub mod Row
+pub mod Lane
+pub mod Reach
+pub mod Laws
+pub mod Authority
