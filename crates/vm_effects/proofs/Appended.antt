@@ -1,5 +1,5 @@
 -- A chain with one word more: a quad is taken, and the last one is linked to it.
-use Rattle.std.proofs.Common.{◌≡◌, ℕ, ◌+◌, ◌<◌, List, [], ◌∷◌, ◌++◌, length, Option, Some, refl, ap, ap₂, sym, ◌∙◌, subst, arith, inl, inr, ◌⊎◌, length-append, Bool, false}
+use Rattle.std.proofs.Common.{◌≡◌, ℕ, List, [], ◌∷◌, ◌++◌, length, Option, Some, refl, ap, ap₂, sym, ◌∙◌, subst, arith, inl, inr, ◌⊎◌, length-append, Bool, false}
 use Rattle.std.proofs.lemmas.Bool.Decides.{nat_tests}
 use Rattle.std.specs.Prelude.{map, nat_eq, if◌then◌else◌}
 use Rattle.std.proofs.lemmas.List.{map-append}
@@ -13,13 +13,10 @@ use Rattle.cap_words.proofs.Stores.{named, opaque-taken, opaque-first}
 use Rattle.cap_words.proofs.Frames.{framed-taken, framed-then}
 use Rattle.cap_words.proofs.Erased.{seen-taken}
 use Rattle.vm_effects.specs.declared.chain.Chain.{Chain}
-use Rattle.vm_effects.specs.Links.{Chained, IsListed, IsChain, words_of, first_or, last_or, last_from, extended}
+use Rattle.vm_effects.specs.Links.{Chained, IsChain, words_of, first_or, last_or, last_from, extended}
 use Rattle.vm_effects.specs.Rewritten.{rewritten}
-use Rattle.vm_effects.proofs.Chains.{chained-among, chained-last, chained-append, last-among, last_from-append, map-among, chain-walked}
+use Rattle.vm_effects.proofs.Chains.{chained-among, chained-last, chained-append, last-among, last_from-append, map-among, chain-walked, same_quad}
 use Rattle.vm_effects.proofs.Rewrites.{rewritten_same, rewritten_other, rewritten_either, rewritten_framed, rewritten_unseen}
-
-same_quad : (o : Option Quad) (p q : Quad) → o ≡ Some p → o ≡ Some q → p ≡ q
-same_quad o p q x y = cc
 
 -- a quad that is there has no number that is still free
 pub not_free : (s : Store) (tag : Tag) (v : W) (p : Quad) → opaque_cell s tag v ≡ Some p → v ≡ Cap (used s) → ⊥
@@ -69,12 +66,12 @@ module _ (s : Store) (tag : Tag) (c : Chain) (ws : List W) (q : Quad) (f : Quad 
   appended_chain z fz = record {
     listed = record {
       chained = chained-append (opaque_cell s tag) refl (opaque_cell appended tag) ws word q h.listed.chained
-      (rewritten_other longer tag f c.last tag word (λ e. last_not_new ws h.listed.chained (sym h.last_is ∙ sym e)) ∙ opaque-first s [] tag q)
-      z
-      (λ v p a n e. rewritten_other longer tag f c.last tag v (λ m. n (m ∙ h.last_is)) ∙ opaque-taken s (cell_as tag q ∷ []) tag v p e)
-      (λ p e.
-        let e' : opaque_cell longer tag c.last ≡ Some p = ap (opaque_cell longer tag) h.last_is ∙ opaque-taken s (cell_as tag q ∷ []) tag (last_or ws) p e in
-        (f p, ap (opaque_cell appended tag) (sym h.last_is) ∙ rewritten_same longer tag f c.last p e', fz p));
+          (rewritten_other longer tag f c.last tag word (λ e. last_not_new ws h.listed.chained (sym h.last_is ∙ sym e)) ∙ opaque-first s [] tag q)
+          z
+          (λ v p a n e. rewritten_other longer tag f c.last tag v (λ m. n (m ∙ h.last_is)) ∙ opaque-taken s (cell_as tag q ∷ []) tag v p e)
+          (λ p e.
+          let e' : opaque_cell longer tag c.last ≡ Some p = ap (opaque_cell longer tag) h.last_is ∙ opaque-taken s (cell_as tag q ∷ []) tag (last_or ws) p e in
+          (f p, ap (opaque_cell appended tag) (sym h.last_is) ∙ rewritten_same longer tag f c.last p e', fz p));
       first_is = first-extended c word ws h.listed.first_is h.listed.count_is;
       count_is = omega (arith, h.listed.count_is, length-append ws (word ∷ []));
     };
@@ -114,9 +111,9 @@ module _ (s : Store) (tag : Tag) (c : Chain) (ws : List W) (q : Quad) (f : Quad 
 module _ {A : Type 0} (read : W → Option Quad → A) (s : Store) (tag : Tag) (c : Chain) (q : Quad) (f : Quad → Quad) where
   pub items-appended : IsChain (opaque_cell s tag) c (words_of (opaque_cell s tag) c) → q.z ≡ nil → ((p : Quad) → (f p).z ≡ Cap (used s)) → ((v : W) (p : Quad) → read v (Some (f p)) ≡ read v (Some p))
       → let u = rewritten tag f (taken s (cell_as tag q ∷ [])) c.last in
-        let d = extended c (Cap (used s)) in
-        (map (λ (v : W). read v (opaque_cell u tag v)) (words_of (opaque_cell u tag) d) ≡ map (λ (v : W). read v (opaque_cell s tag v)) (words_of (opaque_cell s tag) c) ++ read (Cap (used s)) (Some q) ∷ [])
-        × IsChain (opaque_cell u tag) d (words_of (opaque_cell u tag) d)
+      let d = extended c (Cap (used s)) in
+      (map (λ (v : W). read v (opaque_cell u tag v)) (words_of (opaque_cell u tag) d) ≡ map (λ (v : W). read v (opaque_cell s tag v)) (words_of (opaque_cell s tag) c) ++ read (Cap (used s)) (Some q) ∷ [])
+      × IsChain (opaque_cell u tag) d (words_of (opaque_cell u tag) d)
   items-appended h z fz k =
       let ws = words_of (opaque_cell s tag) c in
       let u = rewritten tag f (taken s (cell_as tag q ∷ [])) c.last in

@@ -1,16 +1,15 @@
 -- What each call makes of a record.
-use Rattle.std.proofs.Common.{◌≡◌, ℕ, ◌+◌, List, [], ◌∷◌, ◌++◌, length, Option, Some, None, refl, ap, ap₂, sym, ◌∙◌, subst, arith, length-append}
-use Rattle.cap_words.specs.declared.word.Quad.{Quad}
+use Rattle.std.proofs.Common.{◌≡◌, List, [], ◌∷◌, ◌++◌, length, refl, ap, ap₂, ◌∙◌, arith, length-append}
 use Rattle.cap_words.specs.declared.word.Tag.TheVariants.{Actor, Event}
-use Rattle.cap_words.specs.Words.{W, Cap, nil, undef}
+use Rattle.cap_words.specs.Words.{W, Cap, nil}
 use Rattle.cap_words.specs.Store.{Store, opaque_cell, taken, cell_as, used}
 use Rattle.cap_words.specs.Seen.{Slot, UnbornSlot, EventSlot, seen, grown, erase_actor}
-use Rattle.cap_words.specs.Frame.{Among, Framed}
+use Rattle.cap_words.specs.Frame.{Framed}
 use Rattle.cap_words.proofs.Frames.{framed-more}
 use Rattle.quad_memory.specs.declared.cells.ActorCell.{ActorCell}
 use Rattle.quad_memory.specs.declared.cells.EventCell.{EventCell}
 use Rattle.quad_memory.specs.Cells.{actor_words, event_words}
-use Rattle.instr_table.specs.Event.{Sent, Made, Effects, Effect, Sends, Creates, with_effect}
+use Rattle.instr_table.specs.Event.{Sent, Made, Effect, Sends, Creates, with_effect}
 use Rattle.vm_effects.specs.declared.chain.Chain.{Chain}
 use Rattle.vm_effects.specs.declared.effects.Effects.{Effects as Gathered}
 use Rattle.vm_effects.specs.Links.{words_of, extended}
@@ -43,7 +42,7 @@ module _ (s : Store) (e : Gathered) (h : IsLinked s e) where
 
   send-gathers : (cell : EventCell) → cell.next ≡ nil
       → let u = rewritten Event (with_next word) (taken s (cell_as Event (event_words cell) ∷ [])) e.sent.last in
-        Gathers s u e (record e { sent = extended e.sent word }) (Sends (record { event = word; sponsor = cell.sponsor; target = cell.target; content = cell.message })) (EventSlot cell.sponsor cell.target cell.message ∷ [])
+      Gathers s u e (record e { sent = extended e.sent word }) (Sends (record { event = word; sponsor = cell.sponsor; target = cell.target; content = cell.message })) (EventSlot cell.sponsor cell.target cell.message ∷ [])
   send-gathers cell z =
       let q = event_words cell in
       let t = taken s (cell_as Event q ∷ []) in
@@ -61,7 +60,7 @@ module _ (s : Store) (e : Gathered) (h : IsLinked s e) where
 
   create-gathers : (cell : ActorCell) → cell.mark ≡ nil
       → let u = rewritten Actor (with_mark word) (taken s (cell_as Actor (actor_words cell) ∷ [])) e.created.last in
-        Gathers s u e (record e { created = extended e.created word }) (Creates (record { actor = word; state = cell.state; code = cell.code })) (UnbornSlot ∷ [])
+      Gathers s u e (record e { created = extended e.created word }) (Creates (record { actor = word; state = cell.state; code = cell.code })) (UnbornSlot ∷ [])
   create-gathers cell z =
       let q = actor_words cell in
       let t = taken s (cell_as Actor q ∷ []) in

@@ -1,11 +1,15 @@
 -- Chains of linked quads: what is walked along them, and that they have no word twice.
-use Rattle.std.proofs.Common.{◌≡◌, ℕ, zero, suc, ◌+◌, ◌<◌, List, [], ◌∷◌, ◌++◌, length, Option, Some, None, refl, ap, ap₂, sym, ◌∙◌, subst, inl, inr, ◌⊎◌, arith, length-append}
+use Rattle.std.proofs.Common.{◌≡◌, ℕ, zero, suc, ◌<◌, List, [], ◌∷◌, ◌++◌, length, Option, Some, None, refl, ap, ap₂, sym, ◌∙◌, subst, inl, inr, ◌⊎◌, arith}
 use Rattle.std.specs.Prelude.{map}
 use Rattle.cap_words.specs.declared.word.Quad.{Quad}
 use Rattle.cap_words.specs.Words.{W, nil}
 use Rattle.cap_words.specs.Frame.{Among}
 use Rattle.vm_effects.specs.declared.chain.Chain.{Chain}
 use Rattle.vm_effects.specs.Links.{link_in, walk, first_or, last_from, last_or, Chained, IsListed, IsChain, words_of}
+
+-- two quads under one word are one
+pub same_quad : (o : Option Quad) (p q : Quad) → o ≡ Some p → o ≡ Some q → p ≡ q
+same_quad o p q x y = cc
 
 -- what is under these words stays
 abbrev pub Keeps : (W → Option Quad) → (W → Option Quad) → List W → Type 0
@@ -55,12 +59,9 @@ chained-among look (w ∷ ws) v h (inr a) = chained-among look ws v h.3 a
 pub chained-link : (look : W → Option Quad) (ws : List W) (v : W) (p : Quad) → Chained look ws → Among v ws → look v ≡ Some p → (p.z ≡ nil) ⊎ Among p.z ws
 chained-link look [] v p h a e = absurd a
 chained-link look (w ∷ ws) v p h (inl m) e =
-    let q : p ≡ h.0 = same (look v) p h.0 e (ap look m ∙ h.1) in
+    let q : p ≡ h.0 = same_quad (look v) p h.0 e (ap look m ∙ h.1) in
     by ws (ap (λ (x : Quad). x.z) q ∙ h.2)
   where
-    same : (o : Option Quad) (p q : Quad) → o ≡ Some p → o ≡ Some q → p ≡ q
-    same o p q x y = cc
-
     by : (us : List W) → p.z ≡ first_or us → (p.z ≡ nil) ⊎ Among p.z (w ∷ us)
     by [] x = inl x
     by (u ∷ us) x = inr (inr (inl x))
@@ -78,10 +79,6 @@ last_from-append v w (u ∷ us) = last_from-append u w us
 pub last-among : (w : W) (ws : List W) → Among (last_from w ws) (w ∷ ws)
 last-among w [] = inl refl
 last-among w (v ∷ vs) = inr (last-among v vs)
-
--- two quads under one word are one
-same_quad : (o : Option Quad) (p q : Quad) → o ≡ Some p → o ≡ Some q → p ≡ q
-same_quad o p q x y = cc
 
 no_quad : (o : Option Quad) (q : Quad) → o ≡ None → o ≡ Some q → ⊥
 no_quad o q x y = cc

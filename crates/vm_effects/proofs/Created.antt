@@ -1,16 +1,16 @@
 -- The created actors: which words they have, how they are seen, and one of them with another behaviour.
-use Rattle.std.proofs.Common.{◌≡◌, ℕ, zero, suc, ◌+◌, List, [], ◌∷◌, Option, Some, None, Bool, true, false, if◌then◌else◌, refl, ap, ap₂, sym, ◌∙◌, subst, inl, inr, ◌⊎◌, arith}
+use Rattle.std.proofs.Common.{◌≡◌, ℕ, zero, suc, List, [], ◌∷◌, Some, Bool, true, false, if◌then◌else◌, refl, ap, ap₂, sym, ◌∙◌, subst, inl, inr, ◌⊎◌, arith}
 use Rattle.std.specs.Prelude.{map}
 use Rattle.cap_words.specs.declared.word.Quad.{Quad}
 use Rattle.cap_words.specs.declared.word.Tag.TheVariants.{Actor, Event}
 use Rattle.cap_words.specs.Words.{W, nil, same_word}
-use Rattle.cap_words.specs.Store.{Store, opaque_cell, used}
-use Rattle.cap_words.specs.Seen.{Slot, UnbornSlot, seen, slot_seen, erase_as, erase_actor}
+use Rattle.cap_words.specs.Store.{Store, opaque_cell}
+use Rattle.cap_words.specs.Seen.{UnbornSlot, seen, slot_seen, erase_actor}
 use Rattle.cap_words.specs.Frame.{Among, Framed}
 use Rattle.cap_words.proofs.Same.{word_is, word_same, word_differs, word_other}
 use Rattle.cap_words.proofs.Stores.{named}
 use Rattle.cap_words.proofs.Erased.{slot-seen}
-use Rattle.instr_table.specs.Event.{Sent, Made, Effects, Assigns, with_effect, has_created, reassigned}
+use Rattle.instr_table.specs.Event.{Sent, Made, Assigns, with_effect, has_created, reassigned}
 use Rattle.vm_effects.specs.declared.effects.Effects.{Effects as Gathered}
 use Rattle.vm_effects.specs.Links.{Chained, words_of, walk, link_in}
 use Rattle.vm_effects.specs.Rewritten.{rewritten, with_behaviour}
@@ -117,7 +117,7 @@ after-assign s e code state actor h c =
       effects = ap₂ (λ (x : List Made) (y : List Sent). record { created = x; sent = y; next = (effects_of s e).next }) (ap (map (made_at u)) made.0 ∙ made-assigned s code state actor ws chain a) sent.0;
       linked = record { sent = sent.1; created = made.1; few = omega (arith, h.few, rewritten_used s Actor f actor) };
       sees = rewritten_unseen s Actor f actor (λ q k.
-        let l = chained-link (opaque_cell s Actor) ws actor q chain a k in
-        unborn s ws q.x q.y q.z chain l ∙ sym (unborn s ws code state q.z chain l));
+          let l = chained-link (opaque_cell s Actor) ws actor q chain a k in
+          unborn s ws q.x q.y q.z chain l ∙ sym (unborn s ws code state q.z chain l));
       frame = rewritten_framed s Actor f actor (own_words (effects_of s e)) (λ q k. own-created s e actor a);
     }

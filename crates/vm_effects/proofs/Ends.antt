@@ -1,11 +1,11 @@
 -- What an event's end leaves.
-use Rattle.std.proofs.Common.{◌≡◌, ℕ, List, [], ◌∷◌, Option, Some, None, is_some, true, false, refl, ap, sym, ◌∙◌, subst, inl, inr, ◌⊎◌}
+use Rattle.std.proofs.Common.{◌≡◌, [], ◌∷◌, Option, Some, None, false, refl, ap, sym, ◌∙◌, subst, inl, inr}
 use Rattle.std.specs.Prelude.{option_map, IfSome, IsSome}
 use Rattle.cap_words.specs.declared.word.Quad.{Quad}
 use Rattle.cap_words.specs.declared.word.Tag.TheVariants.{Actor, Event}
 use Rattle.cap_words.specs.Words.{W}
 use Rattle.cap_words.specs.Store.{Store, opaque_cell, cap_place}
-use Rattle.cap_words.specs.Seen.{Slot, seen, altered, erase_as}
+use Rattle.cap_words.specs.Seen.{seen, altered, erase_as}
 use Rattle.cap_words.specs.Frame.{Among, Framed}
 use Rattle.cap_words.proofs.Stores.{opaque_twice}
 use Rattle.quad_memory.specs.declared.cells.ActorCell.{ActorCell}

@@ -1,15 +1,14 @@
 -- Making the actors of a chain idle, one after another.
-use Rattle.std.proofs.Common.{◌≡◌, ℕ, suc, ◌+◌, List, [], ◌∷◌, length, Option, Some, None, refl, ap, ap₂, sym, ◌∙◌, subst, inl, inr, arith}
+use Rattle.std.proofs.Common.{◌≡◌, ℕ, suc, List, [], ◌∷◌, length, Some, refl, ap, ap₂, sym, ◌∙◌, subst, inl, inr, arith}
 use Rattle.std.specs.Prelude.{map}
-use Rattle.cap_words.specs.declared.word.Quad.{Quad}
 use Rattle.cap_words.specs.declared.word.Tag.TheVariants.{Actor}
 use Rattle.cap_words.specs.Words.{W, undef}
 use Rattle.cap_words.specs.Store.{Store, opaque_cell, cap_place}
-use Rattle.cap_words.specs.Seen.{Seen, ActorSlot, seen, altered}
+use Rattle.cap_words.specs.Seen.{ActorSlot, seen, altered}
 use Rattle.cap_words.specs.Frame.{Among, Framed}
 use Rattle.cap_words.proofs.Frames.{framed-refl, framed-then}
 use Rattle.instr_table.specs.Event.{Made}
-use Rattle.vm_effects.specs.Links.{walk, link_in, first_or, Chained, IsListed}
+use Rattle.vm_effects.specs.Links.{walk, link_in, first_or, Chained}
 use Rattle.vm_effects.specs.Actors.{all_idle}
 use Rattle.vm_effects.specs.Rewritten.{rewritten, with_mark}
 use Rattle.vm_effects.specs.Gathered.{made_at, made_in, made_from, made_words, AreMade}
@@ -57,9 +56,9 @@ idling-more s t ws n word i = by i.rest i.chain i.word_is i.left i.sees i.inside
           word_is = ap link_in q ∙ h.2;
           left = omega (arith, l);
           sees =
-          ap₂ all_idle now (map-among (made_at u) (made_at t) rs (λ v b. ap (made_in v) (same v b)))
-          ∙ ap (λ (m : Made). all_idle (altered (seen t) (cap_place m.actor) (ActorSlot m.code m.state undef)) (map (made_at t) rs)) (sym was)
-          ∙ x;
+              ap₂ all_idle now (map-among (made_at u) (made_at t) rs (λ v b. ap (made_in v) (same v b)))
+              ∙ ap (λ (m : Made). all_idle (altered (seen t) (cap_place m.actor) (ActorSlot m.code m.state undef)) (map (made_at t) rs)) (sym was)
+              ∙ x;
           frame = framed-then s t u ws ws ws i.frame (rewritten_framed t Actor (with_mark undef) word ws (λ p k. a word (inl w))) (λ v b. b) (λ v b. b);
           inside = λ v b. a v (inr b);
         }

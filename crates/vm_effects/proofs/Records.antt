@@ -1,19 +1,21 @@
 -- What a record stands for, after its own calls and after others'.
-use Rattle.std.proofs.Common.{◌≡◌, ℕ, ◌+◌, ◌≤◌, List, [], ◌∷◌, ◌++◌, length, Option, Some, None, refl, ap, ap₂, sym, ◌∙◌, subst, arith, inl, inr, ◌⊎◌}
+use Rattle.std.proofs.Common.{◌≡◌, ◌≤◌, List, [], ◌∷◌, Option, Some, refl, ap, ap₂, sym, ◌∙◌, subst, arith, inl, inr, ◌⊎◌}
 use Rattle.std.specs.Prelude.{map}
 use Rattle.cap_words.specs.declared.word.Quad.{Quad}
 use Rattle.cap_words.specs.declared.word.Tag.{Tag}
 use Rattle.cap_words.specs.declared.word.Tag.TheVariants.{Actor, Event}
-use Rattle.cap_words.specs.Words.{W, Cap}
+use Rattle.cap_words.specs.Words.{W}
 use Rattle.cap_words.specs.Store.{Store, opaque_cell, used}
+use Rattle.cap_words.specs.Seen.{Slot, seen, slot_seen}
 use Rattle.cap_words.specs.Frame.{Among, Framed}
 use Rattle.cap_words.proofs.Stores.{opaque_twice}
-use Rattle.cap_words.proofs.Frames.{opaque-framed, framed-more, among-left, among-right, among-split}
-use Rattle.instr_table.specs.Event.{Sent, Made, Effects}
+use Rattle.cap_words.proofs.Frames.{opaque-framed, among-left, among-right, among-split}
+use Rattle.cap_words.proofs.Erased.{slot-seen, slot-there}
+use Rattle.instr_table.specs.Event.{Sent, Made}
 use Rattle.vm_effects.specs.declared.chain.Chain.{Chain}
 use Rattle.vm_effects.specs.declared.effects.Effects.{Effects as Gathered}
-use Rattle.vm_effects.specs.Links.{walk, Chained, IsListed, IsChain, words_of}
-use Rattle.vm_effects.specs.Gathered.{sent_at, made_at, sent_in, made_in, sent_from, made_from, effects_of, IsLinked, own_words, sent_words, made_words}
+use Rattle.vm_effects.specs.Links.{Chained, IsChain, words_of}
+use Rattle.vm_effects.specs.Gathered.{sent_at, made_at, sent_in, made_in, effects_of, IsLinked, own_words, sent_words, made_words}
 use Rattle.vm_effects.proofs.Chains.{Keeps, KeepsLinks, keeps-links, chain-walked, chained-kept, chained-among, map-among}
 
 -- a chain stands where its links stay, and has the same words
@@ -31,15 +33,20 @@ keeps-other s t ws vs one other f h n v q a e =
 pub keeps-framed : (s t : Store) (ws vs : List W) (tag : Tag) → Framed s t ws → ((v : W) → Among v vs → Among v ws → ⊥) → Keeps (opaque_cell s tag) (opaque_cell t tag) vs
 keeps-framed s t ws vs tag f n v q a e = opaque-framed s t ws tag v q f (n v a) e
 
+-- what is seen under a word that a frame does not name stays
+pub slot-framed : (s t : Store) (ws : List W) (w : W) (slot : Slot) → Framed s t ws → (Among w ws → ⊥) → slot_seen (seen s) w ≡ Some slot → slot_seen (seen t) w ≡ Some slot
+slot-framed s t ws w slot f out h =
+    let k = slot-there s w slot h in
+    slot-seen t k.0 w k.1 (opaque-framed s t ws k.0 w k.1 f out k.2) ∙ ap Some k.3
+
 -- a chain has the same items where what is under its words stays
 module _ {A : Type 0} (read : W → Option Quad → A) (look look' : W → Option Quad) (c : Chain) where
   pub items-kept : IsChain look c (words_of look c) → Keeps look look' (words_of look c)
       → (map (λ (v : W). read v (look' v)) (words_of look' c) ≡ map (λ (v : W). read v (look v)) (words_of look c)) × IsChain look' c (words_of look' c)
   items-kept h k =
-      let w = chain-kept look look' c h (keeps-links look look' (words_of look c) k) in
-      (
+      let w = chain-kept look look' c h (keeps-links look look' (words_of look c) k) in (
         ap (map (λ (v : W). read v (look' v))) w.0
-        ∙ map-among (λ v. read v (look' v)) (λ v. read v (look v)) (words_of look c) (λ v a. let o = chained-among look (words_of look c) v h.listed.chained a in ap (read v) (k v o.0 a o.1 ∙ sym o.1)),
+            ∙ map-among (λ v. read v (look' v)) (λ v. read v (look v)) (words_of look c) (λ v a. let o = chained-among look (words_of look c) v h.listed.chained a in ap (read v) (k v o.0 a o.1 ∙ sym o.1)),
         w.1,
       )
 
@@ -74,8 +81,7 @@ pub effects-kept : (s t : Store) (e : Gathered) → IsLinked s e → used s ≤ 
     → (effects_of t e ≡ effects_of s e) × IsLinked t e
 effects-kept s t e h g k l =
     let sent = items-kept sent_in (opaque_cell s Event) (opaque_cell t Event) e.sent h.sent k in
-    let made = items-kept made_in (opaque_cell s Actor) (opaque_cell t Actor) e.created h.created l in
-    (
+    let made = items-kept made_in (opaque_cell s Actor) (opaque_cell t Actor) e.created h.created l in (
       ap₂ (λ (c : List Made) (d : List Sent). record { created = c; sent = d; next = (effects_of s e).next }) made.0 sent.0,
       record { sent = sent.1; created = made.1; few = omega (arith, h.few, g) },
     )

@@ -1,11 +1,10 @@
 -- What is in a store where one quad was given other words.
-use Rattle.std.proofs.Common.{◌≡◌, ℕ, ◌<◌, List, [], ◌∷◌, length, Option, Some, None, refl, ap, sym, ◌∙◌, subst, inl, inr, ◌⊎◌, arith, Bool, true, false}
+use Rattle.std.proofs.Common.{◌≡◌, List, Option, Some, None, refl, ap, sym, ◌∙◌, subst, inl, inr, ◌⊎◌, Bool, true, false}
 use Rattle.std.proofs.lemmas.List.{length-set}
-use Rattle.std.specs.Prelude.{slice_get}
 use Rattle.cap_words.specs.declared.word.Quad.{Quad}
 use Rattle.cap_words.specs.declared.word.Tag.{Tag}
 use Rattle.cap_words.specs.Words.{W, Cap, same_word}
-use Rattle.cap_words.specs.Store.{Store, opaque_cell, tagged, changed, cell_as, cap_place, used}
+use Rattle.cap_words.specs.Store.{Store, opaque_cell, changed, cell_as, cap_place, used}
 use Rattle.cap_words.specs.Seen.{seen, altered, erase_as}
 use Rattle.cap_words.specs.Frame.{Among, Framed}
 use Rattle.cap_words.proofs.Same.{word_same, word_differs}

@@ -32,7 +32,14 @@ pub(crate) fn set_behaviour(quads: &mut Quads, actor: Word, code: Word, state: W
     ensures { quads.new ≡ with_store quads.old (rewritten Tag.Actor (with_behaviour code state) quads.old.store actor) }
 {
     if let Some(cell) = quads.actor(actor) {
-        quads.set_actor(actor, ActorCell { code, state, ..cell });
+        quads.set_actor(
+            actor,
+            ActorCell {
+                code,
+                state,
+                ..cell
+            },
+        );
     }
 }
 

@@ -74,7 +74,8 @@ impl Effects {
     pub fn send(&mut self, quads: &mut Quads, event: EventCell)
         requires linked { IsLinked quads.old.store self.old }
         requires room { used quads.old.store < quads.old.room }
-        ensures effects { effects_of quads.new.store self.new ≡ with_effect (effects_of quads.old.store self.old) (Sends (record { event = Cap (used quads.old.store); sponsor = event.sponsor; target = event.target; content = event.message })) }
+        ensures effects { effects_of quads.new.store self.new ≡ with_effect (effects_of quads.old.store self.old)
+            (Sends (record { event = Cap (used quads.old.store); sponsor = event.sponsor; target = event.target; content = event.message })) }
         ensures linked { IsLinked quads.new.store self.new }
         ensures seen { seen quads.new.store ≡ grown (seen quads.old.store) (EventSlot event.sponsor event.target event.message ∷ []) }
         ensures frame { Framed quads.old.store quads.new.store (own_words (effects_of quads.old.store self.old)) }
@@ -93,7 +94,8 @@ impl Effects {
         requires linked { IsLinked quads.old.store self.old }
         requires room { used quads.old.store < quads.old.room }
         ensures word { result ≡ Cap (used quads.old.store) }
-        ensures effects { effects_of quads.new.store self.new ≡ with_effect (effects_of quads.old.store self.old) (Creates (record { actor = Cap (used quads.old.store); state = state; code = code })) }
+        ensures effects { effects_of quads.new.store self.new ≡ with_effect (effects_of quads.old.store self.old)
+            (Creates (record { actor = Cap (used quads.old.store); state = state; code = code })) }
         ensures linked { IsLinked quads.new.store self.new }
         ensures seen { seen quads.new.store ≡ grown (seen quads.old.store) (UnbornSlot ∷ []) }
         ensures frame { Framed quads.old.store quads.new.store (own_words (effects_of quads.old.store self.old)) }
@@ -110,10 +112,17 @@ impl Effects {
     }
 
     /// Gives an actor that this event created another behaviour. `NotFresh` where the event did not create it; then nothing changes.
-    pub fn assign(&mut self, quads: &mut Quads, actor: Word, code: Word, state: Word) -> Result<(), NotFresh>
+    pub fn assign(
+        &mut self,
+        quads: &mut Quads,
+        actor: Word,
+        code: Word,
+        state: Word,
+    ) -> Result<(), NotFresh>
         requires linked { IsLinked quads.old.store self.old }
         ensures fresh { is_ok result ≡ has_created actor (effects_of quads.old.store self.old).created }
-        ensures effects { OnOk result (effects_of quads.new.store self.new ≡ with_effect (effects_of quads.old.store self.old) (Assigns (record { actor = actor; state = state; code = code }))) }
+        ensures effects { OnOk result (effects_of quads.new.store self.new ≡ with_effect (effects_of quads.old.store self.old)
+            (Assigns (record { actor = actor; state = state; code = code }))) }
         ensures refused { OnErr result ((quads.new ≡ quads.old) × (self.new ≡ self.old)) }
         ensures linked { IsLinked quads.new.store self.new }
         ensures seen { seen quads.new.store ≡ seen quads.old.store }
@@ -130,7 +139,8 @@ impl Effects {
     /// Gathers the next behaviour of the event's actor. `Twice` where one is gathered already; then nothing changes.
     pub fn become_with(&mut self, code: Word, state: Word) -> Result<(), Twice>
         ensures first { is_ok result ≡ is_none (next_of self.old) }
-        ensures effects { OnOk result ((s : Store) → effects_of s self.new ≡ with_effect (effects_of s self.old) (Becomes (record { state = state; code = code }))) }
+        ensures effects { OnOk result ((s : Store) → effects_of s self.new ≡ with_effect (effects_of s self.old)
+            (Becomes (record { state = state; code = code }))) }
         ensures refused { OnErr result (self.new ≡ self.old) }
         ensures linked { (s : Store) → IsLinked s self.old → IsLinked s self.new }
     {
@@ -148,7 +158,8 @@ impl Effects {
         requires linked { IsLinked quads.old.store self }
         requires actor { IsSome (actor_at quads.old.store actor) }
         requires other { has_created actor (effects_of quads.old.store self).created ≡ false }
-        ensures seen { IfSome (actor_at quads.old.store actor) (λ c. seen quads.new.store ≡ altered (seen quads.old.store) (cap_place actor) (actor_slot (idle_cell (next_of self) c))) }
+        ensures seen { IfSome (actor_at quads.old.store actor)
+            (λ c. seen quads.new.store ≡ altered (seen quads.old.store) (cap_place actor) (actor_slot (idle_cell (next_of self) c))) }
         ensures sent { sent_from quads.new.store result.events result.first_event ≡ (effects_of quads.old.store self).sent }
         ensures created { made_from quads.new.store result.actors result.first_actor ≡ (effects_of quads.old.store self).created }
         ensures sent_linked { AreSent quads.new.store result.events result.first_event }
@@ -168,7 +179,8 @@ impl Effects {
     /// The actor is idle, and no other cell changes: all that was gathered is given up.
     pub fn drop_all(self, quads: &mut Quads, actor: Word)
         requires { IsSome (actor_at quads.old.store actor) }
-        ensures seen { IfSome (actor_at quads.old.store actor) (λ c. seen quads.new.store ≡ altered (seen quads.old.store) (cap_place actor) (actor_slot (idle_cell None c))) }
+        ensures seen { IfSome (actor_at quads.old.store actor)
+            (λ c. seen quads.new.store ≡ altered (seen quads.old.store) (cap_place actor) (actor_slot (idle_cell None c))) }
         ensures frame { Framed quads.old.store quads.new.store (actor ∷ []) }
         ensures room { quads.new.room ≡ quads.old.room }
     {

@@ -11,3 +11,6 @@ mod release;
 
 pub use effects::{Effects, NotFresh, Released, Twice};
 pub use release::make_idle;
+
+#[cfg(test)]
+mod tests;

@@ -1,6 +1,4 @@
-use Rattle.std.proofs.Common.{◌≡◌, ℕ, suc, ◌+◌, ◌-◌, true, ap, sym, ◌∙◌, arith, refl, subst}
-use Rattle.cap_words.specs.declared.word.Tag.TheVariants.{Actor}
-use Rattle.cap_words.specs.Store.{opaque_cell}
+use Rattle.std.proofs.Common.{◌≡◌, suc, ◌-◌, ap, sym, ◌∙◌, arith, refl}
 use Rattle.cap_words.proofs.Same.{word_same, word_differs}
 use Rattle.instr_table.specs.Event.{has_created}
 use Rattle.vm_effects.specs.Gathered.{made_from}
@@ -20,12 +18,11 @@ loop-preserved c =
     let s = c.args.quads.now.store in
     let v = c.loop.invariant in
     let k = v.0 - 1 in
-    let more : v.0 ≡ suc k = omega (arith, v.1, c.loop-test.true) in
-    (
+    let more : v.0 ≡ suc k = omega (arith, v.1, c.loop-test.true) in (
       k,
       omega (arith, v.1, c.loop-test.true),
       ap (λ w. has_created c.args.actor (made_from s k w)) c.link_of-word.ensures
-      ∙ sym (has_created-further s k c.loop.word c.args.actor (word_differs c.loop.word c.args.actor (sym c.is_same.ensures ∙ c.if-is_same.false)))
-      ∙ ap (λ n. has_created c.args.actor (made_from s n c.loop.word)) (sym more)
-      ∙ v.2,
+          ∙ sym (has_created-further s k c.loop.word c.args.actor (word_differs c.loop.word c.args.actor (sym c.is_same.ensures ∙ c.if-is_same.false)))
+          ∙ ap (λ n. has_created c.args.actor (made_from s n c.loop.word)) (sym more)
+          ∙ v.2,
     )

@@ -1,6 +1,5 @@
-use Rattle.std.proofs.Common.{◌≡◌, ℕ, suc, ◌+◌, ◌-◌, ap, ap₂, sym, ◌∙◌, arith, refl, subst}
+use Rattle.std.proofs.Common.{◌≡◌, ℕ, suc, ◌-◌, ap, sym, ◌∙◌, arith, refl, subst}
 use Rattle.cap_words.specs.declared.word.Tag.TheVariants.{Actor}
-use Rattle.cap_words.specs.Words.{W}
 use Rattle.cap_words.specs.Store.{Store, opaque_cell}
 use Rattle.quad_memory.specs.Memory.{Memory}
 use Rattle.vm_effects.specs.Links.{walk}
@@ -17,12 +16,11 @@ loop-preserved c =
     let v = c.loop.invariant in
     let k = v.0 - 1 in
     let more : v.0 ≡ suc k = omega (arith, v.1, c.loop-test.true) in
-    let before = subst (λ (n : ℕ). Idling s c.loop.quads.store ws n c.loop.word) more v.2 in
-    (
+    let before = subst (λ (n : ℕ). Idling s c.loop.quads.store ws n c.loop.word) more v.2 in (
       k,
       omega (arith, v.1, c.loop-test.true),
       subst (λ (t : Store). Idling s t ws k c.link_of-next.result) (sym (ap (λ (m : Memory). m.store) c.set_mark.ensures))
-      (subst (Idling s _ ws k) (sym c.link_of-next.ensures) (idling-more s c.loop.quads.store ws k c.loop.word before)),
+          (subst (Idling s _ ws k) (sym c.link_of-next.ensures) (idling-more s c.loop.quads.store ws k c.loop.word before)),
       ap (λ (m : Memory). m.room) c.set_mark.ensures ∙ v.3,
     )
 
