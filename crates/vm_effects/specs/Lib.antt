@@ -1,0 +1,4 @@
+pub mod Links
+pub mod Rewritten
+pub mod Gathered
+pub mod Actors
