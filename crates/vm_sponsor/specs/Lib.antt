@@ -1,0 +1,5 @@
+pub mod Grant
+pub mod Ledger
+pub mod Totals
+pub mod Sheets
+pub mod Answers
