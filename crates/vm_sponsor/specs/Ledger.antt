@@ -17,6 +17,9 @@ abbrev pub names : List Row → List W
 names [] = []
 names (r ∷ rows) = r.sponsor ∷ names rows
 
+abbrev pub no_amounts : Amounts
+no_amounts = record { memory = 0; events = 0; cycles = 0 }
+
 -- the amount of one kind
 abbrev pub of_kind : Quota → Amounts → ℕ
 of_kind Memory a = a.memory
@@ -35,6 +38,11 @@ row_passing kind n r = record r { passed = raised kind n r.passed }
 
 abbrev pub row_receiving : Quota → ℕ → Row → Row
 row_receiving kind n r = record r { received = raised kind n r.received }
+
+-- the row of a sponsor
+abbrev pub row_of : W → List Row → Row
+row_of w [] = record { sponsor = w; received = no_amounts; passed = no_amounts }
+row_of w (r ∷ rows) = if same_word r.sponsor w then r else row_of w rows
 
 -- the place of a sponsor's row
 abbrev pub place_of : W → List Row → ℕ

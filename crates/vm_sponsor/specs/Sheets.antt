@@ -7,7 +7,8 @@ use Rattle.quad_memory.specs.declared.cells.SponsorCell.{SponsorCell}
 use Rattle.quad_memory.specs.Cells.{sponsor_at}
 use Rattle.instr_table.specs.declared.charge.Quota.{Quota}
 use Rattle.instr_table.specs.declared.charge.Quota.TheVariants.{Memory, Events, Cycles}
-use Rattle.instr_table.specs.Sheet.{Account, Standing, Stopped, Running}
+use Rattle.instr_table.specs.Sheet.{Account, Standing, Stopped, Running, holding}
+use Rattle.vm_sponsor.specs.declared.amounts.Amounts.{Amounts}
 use Rattle.vm_sponsor.specs.declared.amounts.Row.{Row}
 use Rattle.vm_sponsor.specs.declared.amounts.SheetRow.{SheetRow}
 use Rattle.vm_sponsor.specs.Ledger.{Ledger, names}
@@ -52,6 +53,10 @@ account_in s r = account_with r (cell_or_new (sponsor_at s r.sponsor))
 -- the plain sheet
 abbrev pub sheet_of : Store → List Row → List Account
 sheet_of s rows = map (account_in s) rows
+
+-- the account of the first sponsor: it holds the grant and runs, with no prepared signal
+abbrev pub root_account : W → Amounts → Account
+root_account w grant = record { sponsor = w; memory = holding grant.memory; events = holding grant.events; cycles = holding grant.cycles; standing = Running None }
 
 -- a row as it is shown
 abbrev pub shown : Account → SheetRow

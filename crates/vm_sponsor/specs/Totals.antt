@@ -3,6 +3,7 @@ use Rattle.std.specs.Prelude.{ℕ, ◌+◌, ◌*◌, ◌≤◌, List, [], ◌∷
 use Rattle.std.specs.List.{sum_by}
 use Rattle.cap_words.specs.Words.{W}
 use Rattle.instr_table.specs.declared.charge.Quota.{Quota}
+use Rattle.instr_table.specs.declared.charge.Quota.TheVariants.{Memory, Events, Cycles}
 use Rattle.instr_table.specs.Sheet.{Account, Balances, amount}
 
 -- what fits a fixnum
@@ -41,3 +42,10 @@ pub record IsSound (transfers : ℕ) (sheet : List Account) : Type 0 where
   pub balanced : Each IsBalanced sheet
   pub bounded : Each (ReceivedAtMost ((transfers + 1) * most_held)) sheet
   pub fits : (kind : Quota) → total kind sheet ≤ most_held
+
+-- what of one kind moves where n of another kind does
+abbrev pub moved : Quota → Quota → ℕ → ℕ
+moved Memory Memory n = n
+moved Events Events n = n
+moved Cycles Cycles n = n
+moved kind other n = 0

@@ -2,11 +2,12 @@
 
 ghost use Rattle.std.specs.Prelude.{◌≡◌, ◌+◌, ◌-◌, ◌≤◌, None, pos};
 ghost use Rattle.cap_words.specs.Words.{W, Fix, same_word};
-ghost use Rattle.instr_table.specs.Sheet.{amount, short, paid};
+ghost use Rattle.instr_table.specs.Sheet.{amount, short, paid, signal_in};
 ghost use Rattle.vm_sponsor.specs.declared.amounts.Row.{Row};
 ghost use Rattle.vm_sponsor.specs.Totals.{most_held};
-ghost use Rattle.vm_sponsor.specs.Sheets.{amount_in, IsAmount, HasAmounts, Fits, account_with, with_held};
+ghost use Rattle.vm_sponsor.specs.Sheets.{amount_in, IsAmount, HasAmounts, Fits, account_with, with_held, standing_in, shown};
 
+use crate::amounts::{Amounts, Row, SheetRow};
 use cap_words::Word;
 use instr_table::{Charge, Quota};
 use quad_memory::SponsorCell;
@@ -59,6 +60,46 @@ pub(crate) fn with_held(c: &SponsorCell, kind: Quota, n: u32) -> SponsorCell
         Quota::Memory => SponsorCell { memory: held, ..*c },
         Quota::Events => SponsorCell { events: held, ..*c },
         Quota::Cycles => SponsorCell { cycles: held, ..*c },
+    }
+}
+
+// A sponsor with this signal.
+pub(crate) fn with_signal(c: &SponsorCell, signal: Word) -> SponsorCell
+    ensures { result ≡ record c.now { signal = signal } }
+{
+    SponsorCell { signal, ..*c }
+}
+
+// The signal that is prepared, if one is.
+pub(crate) fn prepared_in(signal: Word) -> Option<Word>
+    ensures { result ≡ signal_in (standing_in signal) }
+{
+    if is_same(signal, Word::UNDEF) || is_same(signal, Word::NIL) {
+        None
+    } else {
+        Some(signal)
+    }
+}
+
+// A row as it is shown.
+pub(crate) fn shown_row(row: &Row, c: &SponsorCell) -> SheetRow
+    requires { HasAmounts c.now }
+    ensures { result ≡ shown (account_with row.now c.now) }
+{
+    SheetRow {
+        sponsor: row.sponsor,
+        received: row.received,
+        passed: row.passed,
+        spent: Amounts {
+            memory: u64::from(amount(c.memory_spent)),
+            events: u64::from(amount(c.events_spent)),
+            cycles: u64::from(amount(c.cycles_spent)),
+        },
+        held: Amounts {
+            memory: u64::from(amount(c.memory)),
+            events: u64::from(amount(c.events)),
+            cycles: u64::from(amount(c.cycles)),
+        },
     }
 }
 

@@ -10,7 +10,10 @@ mod amounts;
 mod answer;
 mod cell;
 mod grant;
+mod sheet;
 
 pub use amounts::{Amounts, SheetRow};
 pub use answer::{RanOut, Running, Short};
 pub use grant::Grant;
+pub use sheet::{Sheet, amounts_are_conserved};
+pub use std::alloc::AllocError as NoMemory;
