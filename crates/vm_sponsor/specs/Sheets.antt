@@ -11,7 +11,7 @@ use Rattle.instr_table.specs.Sheet.{Account, Standing, Stopped, Running, holding
 use Rattle.vm_sponsor.specs.declared.amounts.Amounts.{Amounts}
 use Rattle.vm_sponsor.specs.declared.amounts.Row.{Row}
 use Rattle.vm_sponsor.specs.declared.amounts.SheetRow.{SheetRow}
-use Rattle.vm_sponsor.specs.Ledger.{Ledger, names}
+use Rattle.vm_sponsor.specs.Ledger.{Ledger, names, no_amounts}
 use Rattle.vm_sponsor.specs.Totals.{IsSound, most_held}
 
 -- ---- one sponsor
@@ -38,12 +38,13 @@ account_with r c = record {
   standing = standing_in c.signal;
 }
 
--- the cell of a new sponsor: it holds nothing and is stopped
-abbrev pub new_cell : SponsorCell
-new_cell = record { signal = undef; memory = Fix (pos 0); events = Fix (pos 0); cycles = Fix (pos 0); memory_spent = Fix (pos 0); events_spent = Fix (pos 0); cycles_spent = Fix (pos 0) }
+-- the cell of a sponsor that holds these amounts and has spent nothing
+abbrev pub fresh_cell : W → Amounts → SponsorCell
+fresh_cell signal a = record { signal = signal; memory = Fix (pos a.memory); events = Fix (pos a.events); cycles = Fix (pos a.cycles); memory_spent = Fix (pos 0); events_spent = Fix (pos 0); cycles_spent = Fix (pos 0) }
 
+-- the sponsor that is there, or a new one, which holds nothing and is stopped
 abbrev pub cell_or_new : Option SponsorCell → SponsorCell
-cell_or_new None = new_cell
+cell_or_new None = fresh_cell undef no_amounts
 cell_or_new (Some c) = c
 
 -- the account of a row

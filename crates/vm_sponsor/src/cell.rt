@@ -5,7 +5,7 @@ ghost use Rattle.cap_words.specs.Words.{W, Fix, same_word};
 ghost use Rattle.instr_table.specs.Sheet.{amount, short, paid, signal_in};
 ghost use Rattle.vm_sponsor.specs.declared.amounts.Row.{Row};
 ghost use Rattle.vm_sponsor.specs.Totals.{most_held};
-ghost use Rattle.vm_sponsor.specs.Sheets.{amount_in, IsAmount, HasAmounts, Fits, account_with, with_held, standing_in, shown};
+ghost use Rattle.vm_sponsor.specs.Sheets.{amount_in, IsAmount, HasAmounts, Fits, account_with, fresh_cell, with_held, standing_in, shown};
 
 use crate::amounts::{Amounts, Row, SheetRow};
 use cap_words::Word;
@@ -20,7 +20,7 @@ pub(crate) fn is_same(a: Word, b: Word) -> bool
 }
 
 // The number in a word.
-pub(crate) fn amount(w: Word) -> u32
+fn amount(w: Word) -> u32
     requires { IsAmount w }
     ensures { result ≡ amount_in w }
 {
@@ -31,11 +31,29 @@ pub(crate) fn amount(w: Word) -> u32
 }
 
 // The word of a number.
-pub(crate) fn amount_word(n: u32) -> Word
+fn amount_word(n: u32) -> Word
     requires { n ≤ most_held }
     ensures { result ≡ Fix (pos n) }
 {
     Word::number_word(n as i32)
+}
+
+// A sponsor that holds these amounts and has spent nothing.
+pub(crate) fn fresh_cell(signal: Word, memory: u32, events: u32, cycles: u32) -> SponsorCell
+    requires memory { memory ≤ most_held }
+    requires events { events ≤ most_held }
+    requires cycles { cycles ≤ most_held }
+    ensures { result ≡ fresh_cell signal (record { memory = memory; events = events; cycles = cycles }) }
+{
+    SponsorCell {
+        signal,
+        memory: amount_word(memory),
+        events: amount_word(events),
+        cycles: amount_word(cycles),
+        memory_spent: amount_word(0),
+        events_spent: amount_word(0),
+        cycles_spent: amount_word(0),
+    }
 }
 
 // How much a sponsor holds of one kind.

@@ -20,7 +20,7 @@ ghost use Rattle.vm_sponsor.specs.Answers.{short_answer, spend_answer, start_ans
 use crate::amounts::{Amounts, Row, SheetRow};
 use crate::answer::{RanOut, Running, Short};
 use crate::cell::{
-    amount_word, first_short, held_of, is_same, paid_cell, prepared_in, shown_row, with_held, with_signal,
+    first_short, fresh_cell, held_of, is_same, paid_cell, prepared_in, shown_row, with_held, with_signal,
 };
 use crate::grant::Grant;
 use cap_words::Word;
@@ -69,15 +69,7 @@ impl Sheet {
         let memory = grant.memory();
         let events = grant.events();
         let cycles = grant.cycles();
-        let sponsor = quads.take_sponsor(SponsorCell {
-            signal: Word::NIL,
-            memory: amount_word(memory),
-            events: amount_word(events),
-            cycles: amount_word(cycles),
-            memory_spent: amount_word(0),
-            events_spent: amount_word(0),
-            cycles_spent: amount_word(0),
-        });
+        let sponsor = quads.take_sponsor(fresh_cell(Word::NIL, memory, events, cycles));
         let received = Amounts {
             memory: u64::from(memory),
             events: u64::from(events),
@@ -109,15 +101,7 @@ impl Sheet {
         if self.rows.len() >= self.room as usize {
             return None;
         }
-        let sponsor = quads.take_sponsor(SponsorCell {
-            signal: Word::UNDEF,
-            memory: amount_word(0),
-            events: amount_word(0),
-            cycles: amount_word(0),
-            memory_spent: amount_word(0),
-            events_spent: amount_word(0),
-            cycles_spent: amount_word(0),
-        });
+        let sponsor = quads.take_sponsor(fresh_cell(Word::UNDEF, 0, 0, 0));
         push_row(&mut self.rows, sponsor, Amounts::NONE);
         Some(sponsor)
     }
@@ -328,25 +312,35 @@ fn push_row(rows: &mut Vec<Row>, sponsor: Word, received: Amounts)
 }
 
 // Adds to what a sponsor passed on of one kind.
-fn add_passed(rows: &mut [Row], who: Word, kind: Quota, n: u32)
-    requires named { Among who (names rows.old) }
-    requires fits { of_kind kind (row_of who rows.old).passed + n < 2 ^ 64 }
-    ensures { rows.new ≡ at_row who (row_passing kind n) rows.old }
+fn add_passed(rows: &mut Vec<Row>, who: Word, kind: Quota, n: u32)
+    requires named { Among who (names rows.old.items) }
+    requires fits { of_kind kind (row_of who rows.old.items).passed + n < 2 ^ 64 }
+    ensures rows { rows.new.items ≡ at_row who (row_passing kind n) rows.old.items }
+    ensures len { vec_len rows.new ≡ vec_len rows.old }
+    ensures capacity { vec_capacity rows.new ≡ vec_capacity rows.old }
 {
     let place = place_of(rows, who);
     let row = rows[place];
-    rows[place].passed = row.passed.raised(kind, n);
+    rows[place] = Row {
+        passed: row.passed.raised(kind, n),
+        ..row
+    };
 }
 
 // Adds to what a sponsor received of one kind.
-fn add_received(rows: &mut [Row], who: Word, kind: Quota, n: u32)
-    requires named { Among who (names rows.old) }
-    requires fits { of_kind kind (row_of who rows.old).received + n < 2 ^ 64 }
-    ensures { rows.new ≡ at_row who (row_receiving kind n) rows.old }
+fn add_received(rows: &mut Vec<Row>, who: Word, kind: Quota, n: u32)
+    requires named { Among who (names rows.old.items) }
+    requires fits { of_kind kind (row_of who rows.old.items).received + n < 2 ^ 64 }
+    ensures rows { rows.new.items ≡ at_row who (row_receiving kind n) rows.old.items }
+    ensures len { vec_len rows.new ≡ vec_len rows.old }
+    ensures capacity { vec_capacity rows.new ≡ vec_capacity rows.old }
 {
     let place = place_of(rows, who);
     let row = rows[place];
-    rows[place].received = row.received.raised(kind, n);
+    rows[place] = Row {
+        received: row.received.raised(kind, n),
+        ..row
+    };
 }
 
 // The place of a sponsor's row.

@@ -11,4 +11,9 @@ returns c =
     let rows = c.args.self.now.rows in
     let k : Read s rows c.args.who cell.result = record { named = c.requires.who; cell = cell.ensures.cell; amounts = cell.ensures.amounts } in
     let step = signal_step c.args.quads.now c.args.self.now c.args.who cell.result undef Stopped c.requires.belongs k refl in
-    ?
+    rw (c.set_sponsor.ensures, c.with_signal.ensures) (record {
+      signal = c.prepared_in.ensures ∙ ap (λ (a : Account). signal_in a.standing) (sym (read-account s rows c.args.who cell.result k));
+      sheet = step.0;
+      rows = refl;
+      keeps = step.1;
+    })
