@@ -171,10 +171,13 @@ Passed w zero rows = Unit {0}
 Passed w (suc n) [] = ⊥
 Passed w (suc n) (r ∷ rows) = (same_word r.sponsor w ≡ false) × Passed w n rows
 
-pub passed-next : (w : W) (n : ℕ) (rows : List Row) (r : Row) → Passed w n rows → n < length rows → same_word (get_or rows n r).sponsor w ≡ false → Passed w (suc n) rows
+passed-next : (w : W) (n : ℕ) (rows : List Row) (r : Row) → Passed w n rows → n < length rows → same_word (get_or rows n r).sponsor w ≡ false → Passed w (suc n) rows
 passed-next w n [] r p h e = absurd (omega arith)
 passed-next w zero (x ∷ rows) r p h e = (e, tt)
 passed-next w (suc n) (x ∷ rows) r p h e = (p.0, passed-next w n rows r p.1 (omega arith) e)
+
+pub passed-more : (w : W) (n : ℕ) (rows : List Row) (r : Row) → Passed w n rows → n < length rows → same_word (get_or rows n r).sponsor w ≡ false → Passed w (n + 1) rows
+passed-more w n rows r p h e = let k : suc n ≡ n + 1 = omega arith in subst (λ (m : ℕ). Passed w m rows) k (passed-next w n rows r p h e)
 
 pub passed-found : (w : W) (n : ℕ) (rows : List Row) (r : Row) → Passed w n rows → n < length rows → same_word (get_or rows n r).sponsor w ≡ true → place_of w rows ≡ n
 passed-found w n [] r p h e = absurd (omega arith)
@@ -195,3 +198,16 @@ row_of-place w (r ∷ rows) i = by (same_word r.sponsor w) refl i (row_of-place 
     by true e a rest = refl
     by false e (inl k) rest = absurd (word_differs r.sponsor w e (sym k))
     by false e (inr a) rest = rest a
+
+-- the row that is read at a place
+got : (rows : List Row) (n : ℕ) (r d : Row) → slice_get rows n ≡ Some r → get_or rows n d ≡ r
+got [] n r d h = cc
+got (x ∷ rows) zero r d h = cc
+got (x ∷ rows) (suc n) r d h = got rows n r d h
+
+-- the sponsor's row was read at its place, changed and written there
+pub row-written : (w : W) (g : Row → Row) (rows : List Row) (n : ℕ) (r : Row) → Among w (names rows) → n ≡ place_of w rows → r ≡ get_or rows n r → slice_set rows n (g r) ≡ at_row w g rows
+row-written w g rows n r i e h =
+    let there = row_of-place w rows i in
+    let is : r ≡ row_of w rows = h ∙ ap (λ (k : ℕ). get_or rows k r) e ∙ got rows (place_of w rows) (row_of w rows) r there in
+    ap₂ (λ (k : ℕ) (x : Row). slice_set rows k (g x)) e is ∙ at_row-set w g rows there

@@ -11,7 +11,7 @@ returns-then-not-is_same-clause-answer c =
     let s = c.args.quads.now.store in
     let rows = c.args.self.now.rows in
     let k : Read s rows c.args.who cell.result = record { named = c.requires.who; cell = cell.ensures.cell; amounts = cell.ensures.amounts } in
-    ap start_answer (sym (read-runs s rows c.args.who cell.result k ∙ ap not (sym c.is_same.ensures) ∙ ?))
+    ap start_answer (sym (read-runs s rows c.args.who cell.result k ∙ ap not (sym c.is_same.ensures ∙ c.if-not-is_same.true)))
 
 pub returns : goal.returns
 returns c =
