@@ -5,9 +5,11 @@ use Rattle.std.proofs.lemmas.List.Sums.{sum_by-cons}
 use Rattle.cap_words.specs.Words.{W, Cap, undef, nil}
 use Rattle.cap_words.specs.Store.{Store, Cell, used, taken, cap_place}
 use Rattle.cap_words.specs.declared.word.Tag.TheVariants.{SponsorHeld}
+use Rattle.cap_words.specs.Seen.{SponsorSlot, SpentSlot, seen, grown}
 use Rattle.cap_words.specs.Frame.{Among, Framed}
 use Rattle.cap_words.proofs.Stores.{named}
-use Rattle.cap_words.proofs.Frames.{among-split}
+use Rattle.cap_words.proofs.Erased.{seen-taken}
+use Rattle.cap_words.proofs.Frames.{among-split, framed-taken}
 use Rattle.quad_memory.specs.declared.cells.SponsorCell.{SponsorCell}
 use Rattle.quad_memory.specs.Cells.{sponsor_at, sponsor_cells}
 use Rattle.quad_memory.proofs.Typed.{sponsor-quads, sponsor-taken, sponsor-framed, sponsor-first}
@@ -26,7 +28,7 @@ use Rattle.vm_sponsor.proofs.Rows.{sheet-same}
 abbrev pub fresh_row : W → Amounts → Row
 fresh_row w a = record { sponsor = w; received = a; passed = no_amounts }
 
-pub names-push : (rows : List Row) (r : Row) → names (rows ++ r ∷ []) ≡ names rows ++ r.sponsor ∷ []
+names-push : (rows : List Row) (r : Row) → names (rows ++ r ∷ []) ≡ names rows ++ r.sponsor ∷ []
 names-push [] r = refl
 names-push (x ∷ rows) r = ap (λ vs. x.sponsor ∷ vs) (names-push rows r)
 
@@ -35,7 +37,7 @@ apart-push [] w d o = (λ i. i, tt)
 apart-push (v ∷ ws) w d o = (λ i. elim (among-split v ws (w ∷ []) i) [ inl k ↦ d.0 k | inr k ↦ elim k [ inl e ↦ o (inl (sym e)) | inr n ↦ n ] ], apart-push ws w d.1 (λ i. o (inr i)))
 
 -- a word that is not taken yet names no sponsor
-pub fresh-word : (s : Store) (rows : List Row) → ((w : W) → Among w (names rows) → IsThere s w) → Among (Cap (used s)) (names rows) → ⊥
+fresh-word : (s : Store) (rows : List Row) → ((w : W) → Among w (names rows) → IsThere s w) → Among (Cap (used s)) (names rows) → ⊥
 fresh-word s rows there i =
     let j = there (Cap (used s)) i in
     let q = sponsor-quads s (Cap (used s)) j.0 j.1 in
@@ -72,7 +74,7 @@ root-fits w a Memory m e c = omega (arith, m)
 root-fits w a Events m e c = omega (arith, e)
 root-fits w a Cycles m e c = omega (arith, c)
 
-pub root_step : (s : Store) (room : ℕ) (a : Amounts) → a.memory ≤ most_held → a.events ≤ most_held → a.cycles ≤ most_held
+root_step : (s : Store) (room : ℕ) (a : Amounts) → a.memory ≤ most_held → a.events ≤ most_held → a.cycles ≤ most_held
     → (sheet_of (taken s (sponsor_cells (fresh_cell nil a))) (fresh_row (Cap (used s)) a ∷ []) ≡ root_account (Cap (used s)) a ∷ []) × Belongs (taken s (sponsor_cells (fresh_cell nil a))) (record { rows = fresh_row (Cap (used s)) a ∷ []; transfers = 0; room = room })
 root_step s room a m e c =
     let w = Cap (used s) in
@@ -89,7 +91,7 @@ root_step s room a m e c =
 
 -- ---- another one
 
-pub make_step : (s : Store) (sheet : Ledger) → Belongs s sheet
+make_step : (s : Store) (sheet : Ledger) → Belongs s sheet
     → (sheet_of (taken s (sponsor_cells (fresh_cell undef no_amounts))) (sheet.rows ++ fresh_row (Cap (used s)) no_amounts ∷ []) ≡ with_sponsor (sheet_of s sheet.rows) (Cap (used s))) × Belongs (taken s (sponsor_cells (fresh_cell undef no_amounts))) (record { rows = sheet.rows ++ fresh_row (Cap (used s)) no_amounts ∷ []; transfers = sheet.transfers; room = sheet.room })
 make_step s sheet b =
     let w = Cap (used s) in
@@ -110,3 +112,32 @@ make_step s sheet b =
         sound = subst (λ (l : List Account). IsSound sheet.transfers l) (sym is) (sound-new sheet.transfers (sheet_of s sheet.rows) w b.sound);
       },
     )
+
+pub record Made (s t : Store) (old : Ledger) (rows : List Row) (w : W) : Type 0 where
+  pub sheet : sheet_of t rows ≡ with_sponsor (sheet_of s old.rows) w
+  pub all_names : names rows ≡ names old.rows ++ w ∷ []
+  pub belongs : Belongs t (record { rows = rows; transfers = old.transfers; room = old.room })
+  pub seen_is : seen t ≡ grown (seen s) (SponsorSlot ∷ SpentSlot ∷ [])
+  pub frame : Framed s t []
+
+pub made : (s t : Store) (old : Ledger) (rows : List Row) (w : W) → Belongs s old → w ≡ Cap (used s) → t ≡ taken s (sponsor_cells (fresh_cell undef no_amounts)) → rows ≡ old.rows ++ fresh_row w no_amounts ∷ [] → Made s t old rows w
+made s t old rows w b is after pushed =
+    let u = taken s (sponsor_cells (fresh_cell undef no_amounts)) in
+    let step = make_step s old b in
+    let there : Made s u old (old.rows ++ fresh_row (Cap (used s)) no_amounts ∷ []) (Cap (used s)) = record { sheet = step.0; all_names = names-push old.rows (fresh_row (Cap (used s)) no_amounts); belongs = step.1; seen_is = seen-taken s (sponsor_cells (fresh_cell undef no_amounts)); frame = framed-taken s (sponsor_cells (fresh_cell undef no_amounts)) [] } in
+    let named : Made s u old (old.rows ++ fresh_row w no_amounts ∷ []) w = subst (λ (v : W). Made s u old (old.rows ++ fresh_row v no_amounts ∷ []) v) (sym is) there in
+    subst (λ (x : Store). Made s x old rows w) (sym after) (subst (λ (l : List Row). Made s u old l w) (sym pushed) named)
+
+pub record Rooted (s t : Store) (room : ℕ) (rows : List Row) (grant : Amounts) : Type 0 where
+  pub sheet : sheet_of t rows ≡ root_account (Cap (used s)) grant ∷ []
+  pub belongs : Belongs t (record { rows = rows; transfers = 0; room = room })
+  pub seen_is : seen t ≡ grown (seen s) (SponsorSlot ∷ SpentSlot ∷ [])
+  pub frame : Framed s t []
+
+pub rooted : (s t : Store) (room : ℕ) (rows : List Row) (w : W) (grant : Amounts) → grant.memory ≤ most_held → grant.events ≤ most_held → grant.cycles ≤ most_held → w ≡ Cap (used s) → t ≡ taken s (sponsor_cells (fresh_cell nil grant)) → rows ≡ fresh_row w grant ∷ [] → Rooted s t room rows grant
+rooted s t room rows w grant m e c is after pushed =
+    let u = taken s (sponsor_cells (fresh_cell nil grant)) in
+    let step = root_step s room grant m e c in
+    let there : Rooted s u room (fresh_row (Cap (used s)) grant ∷ []) grant = record { sheet = step.0; belongs = step.1; seen_is = seen-taken s (sponsor_cells (fresh_cell nil grant)); frame = framed-taken s (sponsor_cells (fresh_cell nil grant)) [] } in
+    let rows_are : rows ≡ fresh_row (Cap (used s)) grant ∷ [] = pushed ∙ ap (λ (v : W). fresh_row v grant ∷ []) is in
+    subst (λ (x : Store). Rooted s x room rows grant) (sym after) (subst (λ (l : List Row). Rooted s u room l grant) (sym rows_are) there)

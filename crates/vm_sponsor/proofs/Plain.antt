@@ -227,7 +227,7 @@ sound-passes t sheet w kind n h s =
       fits = λ other. omega (arith, passes-total sheet w kind other n h, s.fits other);
     }
 
-moved-same : (kind : Quota) (n : ℕ) → moved kind kind n ≡ n
+pub moved-same : (kind : Quota) (n : ℕ) → moved kind kind n ≡ n
 moved-same Memory n = refl
 moved-same Events n = refl
 moved-same Cycles n = refl

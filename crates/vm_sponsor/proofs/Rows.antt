@@ -1,6 +1,6 @@
 -- What a change of one sponsor does to the rows, the plain sheet and the quads.
 use Rattle.std.proofs.Common.{◌≡◌, ℕ, zero, suc, ◌+◌, ◌<◌, ◌≤◌, List, [], ◌∷◌, ◌++◌, length, get_or, Option, Some, None, Bool, true, false, if◌then◌else◌, refl, ap, ap₂, sym, ◌∙◌, subst, inl, inr, ◌⊎◌, arith, pos}
-use Rattle.std.specs.Prelude.{map, slice_get, slice_set}
+use Rattle.std.specs.Prelude.{map, option_map, slice_get, slice_set}
 use Rattle.cap_words.specs.Words.{W, Fix, Cap, same_word}
 use Rattle.cap_words.specs.Store.{Store, cell_as, used, taken, changed, cap_place}
 use Rattle.cap_words.specs.declared.word.Tag.TheVariants.{SponsorHeld, SponsorSpent}
@@ -17,7 +17,7 @@ use Rattle.instr_table.specs.Sheet.{Account, account, at_account}
 use Rattle.vm_sponsor.specs.declared.amounts.Row.{Row}
 use Rattle.vm_sponsor.specs.Ledger.{Ledger, names, row_of, place_of, at_row}
 use Rattle.vm_sponsor.specs.Totals.{IsSound, sponsors}
-use Rattle.vm_sponsor.specs.Sheets.{account_with, account_in, cell_or_new, sheet_of, HasAmounts, IsThere, Apart, Belongs, quads_of}
+use Rattle.vm_sponsor.specs.Sheets.{account_with, account_in, cell_or_new, sheet_of, shown, HasAmounts, IsThere, Apart, Belongs, quads_of}
 use Rattle.vm_sponsor.specs.Keeps.{Keeps}
 
 -- ---- rows
@@ -211,3 +211,35 @@ row-written w g rows n r i e h =
     let there = row_of-place w rows i in
     let is : r ≡ row_of w rows = h ∙ ap (λ (k : ℕ). get_or rows k r) e ∙ got rows (place_of w rows) (row_of w rows) r there in
     ap₂ (λ (k : ℕ) (x : Row). slice_set rows k (g x)) e is ∙ at_row-set w g rows there
+
+-- ---- a row that is read
+
+pub row-named : (rows : List Row) (k : ℕ) (r d : Row) → k < length rows → r ≡ get_or rows k d → Among r.sponsor (names rows)
+row-named [] k r d h e = absurd (omega arith)
+row-named (x ∷ rows) zero r d h e = inl (ap (λ (y : Row). y.sponsor) e)
+row-named (x ∷ rows) (suc k) r d h e = inr (row-named rows k r d (omega arith) e)
+
+sheet-at : (s : Store) (rows : List Row) (k : ℕ) (r d : Row) → k < length rows → r ≡ get_or rows k d → slice_get (sheet_of s rows) k ≡ Some (account_in s r)
+sheet-at s [] k r d h e = absurd (omega arith)
+sheet-at s (x ∷ rows) zero r d h e = ap (λ (y : Row). Some (account_in s y)) (sym e)
+sheet-at s (x ∷ rows) (suc k) r d h e = sheet-at s rows k r d (omega arith) e
+
+pub sheet-past : (s : Store) (rows : List Row) (k : ℕ) → length rows ≤ k → slice_get (sheet_of s rows) k ≡ None
+sheet-past s [] k h = refl
+sheet-past s (x ∷ rows) zero h = absurd (omega arith)
+sheet-past s (x ∷ rows) (suc k) h = sheet-past s rows k (omega arith)
+
+pub account-shown : (s : Store) (rows : List Row) (k : ℕ) (r d : Row) (c : SponsorCell) → k < length rows → r ≡ get_or rows k d → sponsor_at s r.sponsor ≡ Some c → Some (shown (account_with r c)) ≡ option_map shown (slice_get (sheet_of s rows) k)
+account-shown s rows k r d c h e j = ap (λ (o : Option SponsorCell). Some (shown (account_with r (cell_or_new o)))) (sym j) ∙ ap (option_map shown) (sym (sheet-at s rows k r d h e))
+
+-- ---- one call after another
+
+pub keeps-then : (m n o : Memory) (a b c : Ledger) (vs ws xs : List W) → Keeps m n a b vs → Keeps n o b c ws → ((w : W) → Among w vs → Among w xs) → ((w : W) → Among w ws → Among w xs) → Keeps m o a c xs
+keeps-then m n o a b c vs ws xs f g p q = record {
+  belongs = g.belongs;
+  same_names = g.same_names ∙ f.same_names;
+  same_rows_room = g.same_rows_room ∙ f.same_rows_room;
+  unseen = g.unseen ∙ f.unseen;
+  frame = framed-then m.store n.store o.store vs ws xs f.frame g.frame p q;
+  same_room = g.same_room ∙ f.same_room;
+}

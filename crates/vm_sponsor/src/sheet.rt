@@ -210,8 +210,12 @@ impl Sheet {
         requires { Belongs quads.now.store self.now }
         ensures { result ≡ option_map shown (slice_get (sheet_of quads.now.store self.now.rows) k) }
     {
-        let row = self.rows.get(k as usize)?;
-        Some(shown_row(row, &sponsor_cell(quads, row.sponsor)))
+        let place = k as usize;
+        if place >= self.rows.len() {
+            return None;
+        }
+        let row = self.rows[place];
+        Some(shown_row(&row, &sponsor_cell(quads, row.sponsor)))
     }
 
     // Moves all that one sponsor holds of one kind to another.
