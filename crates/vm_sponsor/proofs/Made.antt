@@ -79,8 +79,7 @@ root_step : (s : Store) (room : ℕ) (a : Amounts) → a.memory ≤ most_held �
 root_step s room a m e c =
     let w = Cap (used s) in
     let t = taken s (sponsor_cells (fresh_cell nil a)) in
-    let is : sheet_of t (fresh_row w a ∷ []) ≡ root_account w a ∷ [] = ap (λ (x : Account). x ∷ []) (account-fresh s nil a) in
-    (
+    let is : sheet_of t (fresh_row w a ∷ []) ≡ root_account w a ∷ [] = ap (λ (x : Account). x ∷ []) (account-fresh s nil a) in (
       is,
       record {
         apart = (λ i. i, tt);
@@ -100,8 +99,7 @@ make_step s sheet b =
     let r = fresh_row w no_amounts in
     let is : sheet_of t (sheet.rows ++ r ∷ []) ≡ with_sponsor (sheet_of s sheet.rows) w =
     map-append (account_in t) sheet.rows (r ∷ []) ∙ ap₂ (λ (l : List Account) (x : Account). l ++ x ∷ []) (sheet-taken s cells sheet.rows b.there) (account-fresh s undef no_amounts) in
-    let all = names-push sheet.rows r in
-    (
+    let all = names-push sheet.rows r in (
       is,
       record {
         apart = subst Apart (sym all) (apart-push (names sheet.rows) w b.apart (fresh-word s sheet.rows b.there));

@@ -66,6 +66,7 @@ sum-more h w f (a ∷ sheet) n i e = by (same_word a.sponsor w) refl e (λ j k. 
     there : same_word a.sponsor w ≡ false → Among w (a.sponsor ∷ sponsors sheet) → Among w (sponsors sheet)
     there o (inl k) = absurd (word_differs a.sponsor w o (sym k))
     there o (inr k) = k
+
     by : (b : Bool) → same_word a.sponsor w ≡ b → h (f (if b then a else account sheet w)) ≡ h (if b then a else account sheet w) + n → (Among w (sponsors sheet) → h (f (account sheet w)) ≡ h (account sheet w) + n → sum_by h (at_account w f sheet) ≡ sum_by h sheet + n) → sum_by h (if b then f a ∷ sheet else a ∷ at_account w f sheet) ≡ sum_by h (a ∷ sheet) + n
     by true s k rest = omega (arith, sum_by-cons h (f a) sheet, sum_by-cons h a sheet, k)
     by false s k rest = omega (arith, sum_by-cons h a (at_account w f sheet), sum_by-cons h a sheet, rest (there s i) k)
@@ -261,6 +262,7 @@ sound-same t sheet w standing s =
     as_before P standing a h Memory = h Memory
     as_before P standing a h Events = h Events
     as_before P standing a h Cycles = h Cycles
+
     same_kept : (standing : Standing) (kind : Quota) (a : Account) → kept kind (stands_as standing a) ≡ kept kind a
     same_kept standing Memory a = refl
     same_kept standing Events a = refl
@@ -296,9 +298,11 @@ account-at_account h w v f (a ∷ sheet) k m = by (same_word a.sponsor w) (accou
     here : (b : Bool) → h (if b then f a else account sheet v) ≡ h (if b then a else account sheet v)
     here true = k a
     here false = refl
+
     there : (b : Bool) → h (account (at_account w f sheet) v) ≡ h (account sheet v) → h (if b then a else account (at_account w f sheet) v) ≡ h (if b then a else account sheet v)
     there true rest = refl
     there false rest = rest
+
     by : (b : Bool) → h (account (at_account w f sheet) v) ≡ h (account sheet v) → h (account (if b then f a ∷ sheet else a ∷ at_account w f sheet) v) ≡ h (account (a ∷ sheet) v)
     by true rest = ap (λ (x : W). h (if same_word x v then f a else account sheet v)) (m a) ∙ here (same_word a.sponsor v)
     by false rest = there (same_word a.sponsor v) rest
@@ -309,6 +313,7 @@ held-transfer sheet from to v kind other n k = by (same_word from to)
   where
     half : (w : W) (change : Amount → Amount) (rows : List Account) → held (at_account w (at_amount kind change) rows) v other ≡ held rows v other
     half w change rows = ap (λ (x : Amount). x.held) (account-at_account (amount other) w v (at_amount kind change) rows (k change) (at_amount-sponsor kind change))
+
     by : (b : Bool) → held (if b then sheet else at_account to (at_amount kind (receives n)) (at_account from (at_amount kind (passes n)) sheet)) v other ≡ held sheet v other
     by true = refl
     by false = half to (receives n) (at_account from (at_amount kind (passes n)) sheet) ∙ half from (passes n) sheet

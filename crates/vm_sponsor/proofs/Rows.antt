@@ -137,8 +137,7 @@ sheet_set m sheet w c f g transfers b i a k e sound =
     let now : account_in t (g r) ≡ account_with (g r) c =
     ap (λ (o : Option SponsorCell). account_with (g r) (cell_or_new o)) (ap (sponsor_at t) (k r ∙ row_of-sponsor w rows i) ∙ sponsor-changed_same s w j.0 c j.1) in
     let is : sheet_of t (at_row w g rows) ≡ at_account w f (sheet_of s rows) =
-    sheet-at_row s t rows w f g b.apart (now ∙ e ∙ ap f (account-row_of s rows w i)) (λ v o. sponsor-changed_other s w v j.0 c j.1 o) in
-    (
+    sheet-at_row s t rows w f g b.apart (now ∙ e ∙ ap f (account-row_of s rows w i)) (λ v o. sponsor-changed_other s w v j.0 c j.1 o) in (
       is,
       record {
         belongs = record {

@@ -20,7 +20,8 @@ ghost use Rattle.vm_sponsor.specs.Answers.{short_answer, spend_answer, start_ans
 use crate::amounts::{Amounts, Row, SheetRow};
 use crate::answer::{RanOut, Running, Short};
 use crate::cell::{
-    first_short, fresh_cell, held_of, is_same, paid_cell, prepared_in, shown_row, with_held, with_signal,
+    first_short, fresh_cell, held_of, is_same, paid_cell, prepared_in, shown_row, with_held,
+    with_signal,
 };
 use crate::grant::Grant;
 use cap_words::Word;
@@ -53,7 +54,12 @@ impl Model for Sheet {
 
 impl Sheet {
     /// Takes two quads for the root sponsor, which holds the grant and runs, with no prepared signal. There may be `rows` sponsors.
-    pub fn with_root(alloc: Global, rows: u32, quads: &mut Quads, grant: Grant) -> Result<Sheet, NoMemory>
+    pub fn with_root(
+        alloc: Global,
+        rows: u32,
+        quads: &mut Quads,
+        grant: Grant,
+    ) -> Result<Sheet, NoMemory>
         requires rows { 1 ≤ rows }
         requires free { used quads.old.store + 1 < quads.old.room }
         ensures sheet { IfOk result (λ sheet. sheet_of quads.new.store sheet.rows ≡ root_account (Cap (used quads.old.store)) grant ∷ []) }
@@ -107,7 +113,14 @@ impl Sheet {
     }
 
     /// Moves n of one kind from one sponsor to another; to itself nothing moves. Where the giver holds less than n nothing changes.
-    pub fn grant(&mut self, quads: &mut Quads, from: Word, to: Word, kind: Quota, n: u32) -> Result<(), Short>
+    pub fn grant(
+        &mut self,
+        quads: &mut Quads,
+        from: Word,
+        to: Word,
+        kind: Quota,
+        n: u32,
+    ) -> Result<(), Short>
         requires belongs { Belongs quads.old.store self.old }
         requires from { Among from (names self.old.rows) }
         requires to { Among to (names self.old.rows) }
@@ -366,5 +379,4 @@ pub fn amounts_are_conserved()
     ensures paid { (sheet : List Account) (w : W) (c : Charge) → short (account sheet w) c ≡ None → Each IsBalanced sheet → Each IsBalanced (spend sheet w c) × ((kind : Quota) → total kind (spend sheet w c) ≡ total kind sheet) }
     ensures moved { (sheet : List Account) (from to : W) (kind : Quota) (n : ℕ) → Among to (sponsors sheet) → n ≤ held sheet from kind → Each IsBalanced sheet → Each IsBalanced (transfer sheet from to kind n) × ((other : Quota) → total other (transfer sheet from to kind n) ≡ total other sheet) }
     ensures reclaimed { (sheet : List Account) (from to : W) → Among to (sponsors sheet) → Each IsBalanced sheet → Each IsBalanced (reclaim sheet from to) × ((kind : Quota) → total kind (reclaim sheet from to) ≡ total kind sheet) }
-{
-}
+{}
