@@ -380,3 +380,6 @@ pub fn amounts_are_conserved()
     ensures moved { (sheet : List Account) (from to : W) (kind : Quota) (n : ℕ) → Among to (sponsors sheet) → n ≤ held sheet from kind → Each IsBalanced sheet → Each IsBalanced (transfer sheet from to kind n) × ((other : Quota) → total other (transfer sheet from to kind n) ≡ total other sheet) }
     ensures reclaimed { (sheet : List Account) (from to : W) → Among to (sponsors sheet) → Each IsBalanced sheet → Each IsBalanced (reclaim sheet from to) × ((kind : Quota) → total kind (reclaim sheet from to) ≡ total kind sheet) }
 {}
+
+#[cfg(test)]
+mod tests;
