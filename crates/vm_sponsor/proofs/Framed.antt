@@ -1,5 +1,5 @@
 -- What a call that changes actors and events, or takes quads, leaves of the sheet: all of it.
-use Rattle.std.proofs.Common.{◌≡◌, ℕ, ◌+◌, List, Some, sym, ◌∙◌, subst}
+use Rattle.std.proofs.Common.{◌≡◌, ◌+◌, List, Some, sym, ◌∙◌, subst}
 use Rattle.std.specs.Prelude.{slice_get}
 use Rattle.cap_words.specs.declared.word.Quad.{Quad}
 use Rattle.cap_words.specs.declared.word.Tag.{Tag}
@@ -11,7 +11,7 @@ use Rattle.cap_words.proofs.Stores.{opaque_twice}
 use Rattle.cap_words.proofs.Tags.{tagged_twice}
 use Rattle.quad_memory.proofs.Typed.{Sponsor, sponsor, sponsor-quads, sponsor-framed}
 use Rattle.instr_table.specs.Sheet.{Account}
-use Rattle.vm_sponsor.specs.Ledger.{Ledger, names}
+use Rattle.vm_sponsor.specs.Ledger.{Ledger}
 use Rattle.vm_sponsor.specs.Totals.{IsSound}
 use Rattle.vm_sponsor.specs.Sheets.{sheet_of, IsThere, Belongs}
 use Rattle.vm_sponsor.proofs.Rows.{sheet-same}

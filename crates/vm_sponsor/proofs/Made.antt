@@ -1,18 +1,16 @@
 -- What a new sponsor does to the sheet and the quads.
-use Rattle.std.proofs.Common.{◌≡◌, ℕ, ◌+◌, ◌*◌, ◌<◌, ◌≤◌, List, [], ◌∷◌, ◌++◌, Some, refl, ap, ap₂, sym, ◌∙◌, subst, inl, inr, ◌⊎◌, arith, pos}
+use Rattle.std.proofs.Common.{◌≡◌, ℕ, ◌+◌, ◌*◌, ◌≤◌, List, [], ◌∷◌, ◌++◌, refl, ap, ap₂, sym, ◌∙◌, subst, inl, inr, arith}
 use Rattle.std.proofs.lemmas.List.{map-append}
-use Rattle.std.proofs.lemmas.List.Sums.{sum_by-cons}
 use Rattle.cap_words.specs.Words.{W, Cap, undef, nil}
-use Rattle.cap_words.specs.Store.{Store, Cell, used, taken, cap_place}
+use Rattle.cap_words.specs.Store.{Store, Cell, used, taken}
 use Rattle.cap_words.specs.declared.word.Tag.TheVariants.{SponsorHeld}
 use Rattle.cap_words.specs.Seen.{SponsorSlot, SpentSlot, seen, grown}
 use Rattle.cap_words.specs.Frame.{Among, Framed}
 use Rattle.cap_words.proofs.Stores.{named}
 use Rattle.cap_words.proofs.Erased.{seen-taken}
 use Rattle.cap_words.proofs.Frames.{among-split, framed-taken}
-use Rattle.quad_memory.specs.declared.cells.SponsorCell.{SponsorCell}
-use Rattle.quad_memory.specs.Cells.{sponsor_at, sponsor_cells}
-use Rattle.quad_memory.proofs.Typed.{sponsor-quads, sponsor-taken, sponsor-framed, sponsor-first}
+use Rattle.quad_memory.specs.Cells.{sponsor_cells}
+use Rattle.quad_memory.proofs.Typed.{sponsor-quads, sponsor-taken, sponsor-first}
 use Rattle.instr_table.specs.declared.charge.Quota.{Quota}
 use Rattle.instr_table.specs.declared.charge.Quota.TheVariants.{Memory, Events, Cycles}
 use Rattle.instr_table.specs.Sheet.{Account, with_sponsor}

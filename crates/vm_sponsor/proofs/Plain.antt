@@ -1,11 +1,11 @@
 -- A plain sheet with one account changed: what it holds of each account, and in all.
-use Rattle.std.proofs.Common.{◌≡◌, ℕ, ◌+◌, ◌-◌, ◌*◌, ◌<◌, ◌≤◌, nat_lt, List, [], ◌∷◌, ◌++◌, Option, Some, None, Bool, true, false, if◌then◌else◌, refl, ap, sym, ◌∙◌, subst, inl, inr, ◌⊎◌, arith}
+use Rattle.std.proofs.Common.{◌≡◌, ℕ, ◌+◌, ◌*◌, ◌≤◌, nat_lt, List, [], ◌∷◌, ◌++◌, Some, None, Bool, true, false, if◌then◌else◌, refl, ap, sym, ◌∙◌, subst, inl, inr, arith}
 use Rattle.std.specs.List.{sum_by}
 use Rattle.std.proofs.lemmas.List.Sums.{sum_by-cons, sum_by_push}
 use Rattle.std.proofs.lemmas.Bool.Decides.{nat_tests}
 use Rattle.cap_words.specs.Words.{W, same_word}
 use Rattle.cap_words.specs.Frame.{Among}
-use Rattle.cap_words.proofs.Same.{word_same, word_is, word_differs, word_other}
+use Rattle.cap_words.proofs.Same.{word_differs}
 use Rattle.instr_table.specs.declared.charge.Charge.{Charge}
 use Rattle.instr_table.specs.declared.charge.Quota.{Quota}
 use Rattle.instr_table.specs.declared.charge.Quota.TheVariants.{Memory, Events, Cycles}

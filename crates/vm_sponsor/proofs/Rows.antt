@@ -1,18 +1,16 @@
 -- What a change of one sponsor does to the rows, the plain sheet and the quads.
-use Rattle.std.proofs.Common.{◌≡◌, ℕ, zero, suc, ◌+◌, ◌<◌, ◌≤◌, List, [], ◌∷◌, ◌++◌, length, get_or, Option, Some, None, Bool, true, false, if◌then◌else◌, refl, ap, ap₂, sym, ◌∙◌, subst, inl, inr, ◌⊎◌, arith, pos}
-use Rattle.std.specs.Prelude.{map, option_map, slice_get, slice_set}
-use Rattle.cap_words.specs.Words.{W, Fix, Cap, same_word}
-use Rattle.cap_words.specs.Store.{Store, cell_as, used, taken, changed, cap_place}
+use Rattle.std.proofs.Common.{◌≡◌, ℕ, zero, suc, ◌+◌, ◌<◌, ◌≤◌, List, [], ◌∷◌, length, get_or, Option, Some, None, Bool, true, false, if◌then◌else◌, refl, ap, ap₂, sym, ◌∙◌, subst, inl, inr, arith}
+use Rattle.std.specs.Prelude.{option_map, slice_get, slice_set}
+use Rattle.cap_words.specs.Words.{W, same_word}
+use Rattle.cap_words.specs.Store.{Store, cell_as, changed, cap_place}
 use Rattle.cap_words.specs.declared.word.Tag.TheVariants.{SponsorHeld, SponsorSpent}
-use Rattle.cap_words.specs.Seen.{seen}
 use Rattle.cap_words.specs.Frame.{Among, Framed}
-use Rattle.cap_words.proofs.Same.{word_same, word_is, word_differs, word_other}
-use Rattle.cap_words.proofs.Stores.{named}
-use Rattle.cap_words.proofs.Frames.{among-split, framed-changed, framed-then}
+use Rattle.cap_words.proofs.Same.{word_same, word_differs}
+use Rattle.cap_words.proofs.Frames.{framed-changed, framed-then}
 use Rattle.quad_memory.specs.declared.cells.SponsorCell.{SponsorCell}
 use Rattle.quad_memory.specs.Memory.{Memory, with_store}
 use Rattle.quad_memory.specs.Cells.{sponsor_at, sponsor_changed, held_words, spent_words}
-use Rattle.quad_memory.proofs.Typed.{sponsor, sponsor-quads, sponsor-changed_same, sponsor-changed_other, seen-sponsor_changed}
+use Rattle.quad_memory.proofs.Typed.{sponsor, sponsor-changed_same, sponsor-changed_other, seen-sponsor_changed}
 use Rattle.instr_table.specs.Sheet.{Account, account, at_account}
 use Rattle.vm_sponsor.specs.declared.amounts.Row.{Row}
 use Rattle.vm_sponsor.specs.Ledger.{Ledger, names, row_of, place_of, at_row}

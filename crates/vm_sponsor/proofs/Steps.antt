@@ -1,5 +1,5 @@
 -- What each call does to the plain sheet, from what it does to a sponsor's quads and row.
-use Rattle.std.proofs.Common.{◌≡◌, ℕ, ◌+◌, ◌-◌, ◌*◌, ◌^◌, ◌<◌, ◌≤◌, List, [], ◌∷◌, Option, Some, None, Bool, true, false, nat_lt, if◌then◌else◌, refl, ap, sym, ◌∙◌, subst, arith, pos}
+use Rattle.std.proofs.Common.{◌≡◌, ℕ, ◌+◌, ◌-◌, ◌*◌, ◌^◌, ◌<◌, ◌≤◌, List, Some, None, Bool, true, false, nat_lt, if◌then◌else◌, refl, ap, sym, ◌∙◌, subst, arith}
 use Rattle.std.specs.Prelude.{not, Result, Ok, Err}
 use Rattle.std.proofs.lemmas.Bool.Decides.{nat_tests}
 use Rattle.cap_words.specs.declared.word.Kind.TheVariants.{Cap as CapKind, Const as ConstKind, Rom as RomKind}
@@ -14,13 +14,13 @@ use Rattle.instr_table.specs.declared.charge.Quota.{Quota}
 use Rattle.instr_table.specs.declared.charge.Quota.TheVariants.{Memory as MemoryKind, Events, Cycles}
 use Rattle.instr_table.specs.Sheet.{Account, Standing, Stopped, Running, runs, runs_in, account, at_account, amount, at_amount, held, paid, spend, short, passes, receives, stands_as, transfer, reclaim}
 use Rattle.vm_sponsor.specs.declared.amounts.Row.{Row}
-use Rattle.vm_sponsor.specs.Ledger.{Ledger, names, of_kind, row_of, at_row, raised, row_passing, row_receiving}
-use Rattle.vm_sponsor.specs.Totals.{IsSound, most_held, moved, sponsors, total}
-use Rattle.vm_sponsor.specs.Sheets.{amount_in, standing_in, account_with, sheet_of, with_held, HasAmounts, Fits, Belongs, quads_of}
+use Rattle.vm_sponsor.specs.Ledger.{Ledger, names, of_kind, row_of, at_row, row_passing, row_receiving}
+use Rattle.vm_sponsor.specs.Totals.{most_held, moved, total}
+use Rattle.vm_sponsor.specs.Sheets.{standing_in, account_with, sheet_of, with_held, HasAmounts, Fits, Belongs, quads_of}
 use Rattle.vm_sponsor.specs.Keeps.{Keeps}
 use Rattle.vm_sponsor.specs.declared.answer.Short.{Short}
 use Rattle.vm_sponsor.specs.Answers.{short_answer}
-use Rattle.vm_sponsor.proofs.Plain.{Covers, covered, kept-total, sound-same, sound-spend, sound-passes, sound-receives, account-balanced, account-bounded, moved-same, held-second, held-third}
+use Rattle.vm_sponsor.proofs.Plain.{kept-total, sound-same, sound-spend, sound-passes, sound-receives, account-balanced, account-bounded, moved-same, held-second, held-third}
 use Rattle.vm_sponsor.proofs.Rows.{account-read, sponsors-sheet_of, sheet_set, cell_set, memory_after, ledger_after}
 
 -- a sponsor of the sheet, as a call read it

@@ -1,5 +1,5 @@
 -- The plain sheet that rows and sponsors' cells stand for.
-use Rattle.std.specs.Prelude.{◌≡◌, ℕ, ◌+◌, ◌≤◌, ℤ, pos, negsuc, if◌then◌else◌, List, [], ◌∷◌, map, Option, Some, None}
+use Rattle.std.specs.Prelude.{◌≡◌, ℕ, ◌+◌, ◌≤◌, pos, negsuc, if◌then◌else◌, List, [], ◌∷◌, map, Option, Some, None}
 use Rattle.cap_words.specs.Words.{W, Fix, Rom, Ram, Cap, same_word, undef, nil}
 use Rattle.cap_words.specs.Store.{Store, cap_place}
 use Rattle.cap_words.specs.Frame.{Among}

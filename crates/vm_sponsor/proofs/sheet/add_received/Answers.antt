@@ -1,5 +1,4 @@
-use Rattle.std.proofs.Common.{◌≡◌, refl, sym, ◌∙◌, ap, List}
-use Rattle.vm_sponsor.specs.declared.amounts.Row.{Row}
+use Rattle.std.proofs.Common.{refl, ◌∙◌, ap}
 use Rattle.vm_sponsor.specs.Ledger.{place_of, row_receiving}
 use Rattle.vm_sponsor.proofs.Rows.{row-written}
 use Rattle.vm_sponsor.proofs.sheet.add_received.Goals as goal

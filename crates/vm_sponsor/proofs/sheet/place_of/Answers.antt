@@ -1,4 +1,4 @@
-use Rattle.std.proofs.Common.{◌≡◌, ◌<◌, length, refl, sym, ◌∙◌, ap, arith, List}
+use Rattle.std.proofs.Common.{refl, sym, ◌∙◌, ap, arith}
 use Rattle.std.specs.Prelude.{slice_get}
 use Rattle.vm_sponsor.proofs.Rows.{passed-more, passed-found, passed-all, row_of-place}
 use Rattle.vm_sponsor.proofs.sheet.place_of.Goals as goal

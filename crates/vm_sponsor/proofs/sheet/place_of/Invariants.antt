@@ -1,4 +1,4 @@
-use Rattle.std.proofs.Common.{◌≡◌, ◌≤◌, ◌-◌, length, ℕ}
+use Rattle.std.proofs.Common.{◌≡◌, ◌≤◌, ◌-◌, length}
 use Rattle.vm_sponsor.proofs.Rows.{Passed}
 use Rattle.vm_sponsor.proofs.sheet.place_of.Given as goal
 

@@ -1,8 +1,5 @@
-use Rattle.std.proofs.Common.{◌≡◌, ℕ, ◌≤◌, sym, ◌∙◌, ap, subst, List, arith}
-use Rattle.std.specs.Prelude.{Result, Ok, Err}
-use Rattle.vm_sponsor.specs.declared.answer.Short.{Short}
+use Rattle.std.proofs.Common.{ℕ, ◌∙◌, ap, arith}
 use Rattle.vm_sponsor.specs.Ledger.{row_of}
-use Rattle.vm_sponsor.specs.Sheets.{sheet_of}
 use Rattle.vm_sponsor.specs.Answers.{short_answer}
 use Rattle.vm_sponsor.proofs.Steps.{Read, read-held, short-answered, enough-answered}
 use Rattle.vm_sponsor.proofs.sheet.Sheet.grant.Goals as goal

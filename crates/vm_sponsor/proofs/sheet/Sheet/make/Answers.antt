@@ -1,12 +1,10 @@
-use Rattle.std.proofs.Common.{◌≡◌, refl, sym, ◌∙◌, ap, subst, List, ◌∷◌, ◌++◌, []}
-use Rattle.cap_words.specs.Words.{W, undef}
-use Rattle.cap_words.specs.Store.{Store, taken, used}
+use Rattle.std.proofs.Common.{sym, ◌∙◌, ap, subst, ◌∷◌, ◌++◌, []}
+use Rattle.cap_words.specs.Store.{taken}
 use Rattle.quad_memory.specs.declared.cells.SponsorCell.{SponsorCell}
 use Rattle.quad_memory.specs.Memory.{Memory}
 use Rattle.quad_memory.specs.Cells.{sponsor_cells}
-use Rattle.vm_sponsor.specs.declared.amounts.Row.{Row}
 use Rattle.vm_sponsor.specs.Ledger.{Ledger, no_amounts}
-use Rattle.vm_sponsor.specs.Sheets.{Belongs, fresh_cell}
+use Rattle.vm_sponsor.specs.Sheets.{Belongs}
 use Rattle.vm_sponsor.proofs.Made.{Made, made, fresh_row}
 use Rattle.vm_sponsor.proofs.sheet.Sheet.make.Goals as goal
 

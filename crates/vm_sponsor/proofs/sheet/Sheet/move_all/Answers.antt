@@ -1,4 +1,4 @@
-use Rattle.std.proofs.Common.{◌≡◌, ℕ, ◌≤◌, sym, ◌∙◌, ap, List, arith}
+use Rattle.std.proofs.Common.{ℕ, ◌∙◌, ap, arith}
 use Rattle.instr_table.specs.Sheet.{transfer}
 use Rattle.vm_sponsor.specs.Ledger.{row_of}
 use Rattle.vm_sponsor.specs.Sheets.{sheet_of}

@@ -1,10 +1,6 @@
-use Rattle.std.proofs.Common.{◌≡◌, ℕ, ◌+◌, ◌≤◌, refl, sym, ◌∙◌, ap, subst, List, arith}
-use Rattle.cap_words.specs.Words.{W}
+use Rattle.std.proofs.Common.{◌+◌, ◌∙◌, ap, arith}
 use Rattle.quad_memory.specs.declared.cells.SponsorCell.{SponsorCell}
-use Rattle.instr_table.specs.Sheet.{held}
-use Rattle.vm_sponsor.specs.declared.amounts.Row.{Row}
 use Rattle.vm_sponsor.specs.Ledger.{Ledger, row_of, of_kind, at_row, row_receiving}
-use Rattle.vm_sponsor.specs.Sheets.{sheet_of, quads_of}
 use Rattle.vm_sponsor.proofs.Rows.{memory_after}
 use Rattle.vm_sponsor.proofs.Steps.{Read, read-held, held-more, received-room, received}
 use Rattle.vm_sponsor.proofs.sheet.Sheet.receive.Goals as goal

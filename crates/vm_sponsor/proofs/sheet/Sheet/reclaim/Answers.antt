@@ -1,5 +1,4 @@
-use Rattle.cap_words.specs.Words.{W}
-use Rattle.std.proofs.Common.{List, ◌++◌}
+use Rattle.std.proofs.Common.{◌++◌}
 use Rattle.vm_sponsor.specs.Sheets.{sheet_of, quads_of}
 use Rattle.vm_sponsor.proofs.Rows.{keeps-then}
 use Rattle.vm_sponsor.proofs.Steps.{reclaimed}

@@ -1,4 +1,4 @@
-use Rattle.std.proofs.Common.{◌≡◌, ◌<◌, length, ap, sym, ◌∙◌, subst, List, Some, get_or, arith}
+use Rattle.std.proofs.Common.{◌<◌, length, ap, ◌∙◌, subst, Some, arith}
 use Rattle.std.specs.Prelude.{option_map, slice_get}
 use Rattle.cap_words.specs.Frame.{Among}
 use Rattle.vm_sponsor.specs.Ledger.{Ledger, names}

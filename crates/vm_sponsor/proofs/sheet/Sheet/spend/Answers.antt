@@ -1,4 +1,4 @@
-use Rattle.std.proofs.Common.{◌≡◌, ap, sym, ◌∙◌, refl}
+use Rattle.std.proofs.Common.{ap, sym, ◌∙◌, refl}
 use Rattle.instr_table.specs.Sheet.{Account, short}
 use Rattle.vm_sponsor.specs.Ledger.{row_of}
 use Rattle.vm_sponsor.specs.Sheets.{account_with}

@@ -1,6 +1,6 @@
-use Rattle.std.proofs.Common.{◌≡◌, ap, sym, ◌∙◌, refl, false, true, Some}
+use Rattle.std.proofs.Common.{ap, sym, ◌∙◌, refl, Some}
 use Rattle.std.specs.Prelude.{not}
-use Rattle.instr_table.specs.Sheet.{Account, Running}
+use Rattle.instr_table.specs.Sheet.{Running}
 use Rattle.vm_sponsor.specs.Answers.{start_answer}
 use Rattle.vm_sponsor.proofs.Steps.{Read, read-runs, signal_step, standing-cap}
 use Rattle.vm_sponsor.proofs.sheet.Sheet.start.Goals as goal

@@ -1,4 +1,4 @@
-use Rattle.std.proofs.Common.{◌≡◌, ap, sym, ◌∙◌, refl}
+use Rattle.std.proofs.Common.{ap, sym, ◌∙◌, refl}
 use Rattle.cap_words.specs.Words.{undef}
 use Rattle.instr_table.specs.Sheet.{Account, Stopped, signal_in}
 use Rattle.vm_sponsor.proofs.Steps.{Read, read-account, signal_step}

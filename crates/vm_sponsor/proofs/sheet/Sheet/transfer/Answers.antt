@@ -1,5 +1,4 @@
-use Rattle.std.proofs.Common.{◌≡◌, ℕ, ◌+◌, ◌≤◌, sym, ◌∙◌, ap, List, ◌++◌, arith}
-use Rattle.cap_words.specs.Words.{W}
+use Rattle.std.proofs.Common.{ap, ◌++◌, arith}
 use Rattle.cap_words.proofs.Frames.{among-left, among-right}
 use Rattle.vm_sponsor.specs.Totals.{total}
 use Rattle.vm_sponsor.specs.Sheets.{sheet_of, quads_of}

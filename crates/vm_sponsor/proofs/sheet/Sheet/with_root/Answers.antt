@@ -1,12 +1,11 @@
-use Rattle.std.proofs.Common.{◌≡◌, ℕ, ◌≤◌, refl, sym, ◌∙◌, ap, ap₂, List, ◌∷◌, ◌++◌, [], subst, arith}
-use Rattle.cap_words.specs.Words.{W, nil}
-use Rattle.cap_words.specs.Store.{Store, taken, used}
+use Rattle.std.proofs.Common.{◌≡◌, ◌≤◌, refl, ◌∙◌, ap, ap₂, List, ◌∷◌, ◌++◌, [], arith}
+use Rattle.cap_words.specs.Words.{nil}
+use Rattle.cap_words.specs.Store.{taken}
 use Rattle.quad_memory.specs.declared.cells.SponsorCell.{SponsorCell}
 use Rattle.quad_memory.specs.Memory.{Memory}
 use Rattle.quad_memory.specs.Cells.{sponsor_cells}
 use Rattle.vm_sponsor.specs.declared.amounts.Amounts.{Amounts}
 use Rattle.vm_sponsor.specs.declared.amounts.Row.{Row}
-use Rattle.vm_sponsor.specs.Ledger.{Ledger, no_amounts}
 use Rattle.vm_sponsor.specs.Totals.{most_held}
 use Rattle.vm_sponsor.specs.Sheets.{fresh_cell}
 use Rattle.vm_sponsor.proofs.Made.{Rooted, rooted, fresh_row}

@@ -1,4 +1,4 @@
-use Rattle.std.proofs.Common.{◌<◌, length, subst, List, arith}
+use Rattle.std.proofs.Common.{◌<◌, length, subst, arith}
 use Rattle.cap_words.specs.Frame.{Among}
 use Rattle.vm_sponsor.specs.Ledger.{Ledger, names}
 use Rattle.vm_sponsor.proofs.Rows.{row-named}
