@@ -221,11 +221,6 @@ sheet-at s [] k r d h e = absurd (omega arith)
 sheet-at s (x ∷ rows) zero r d h e = ap (λ (y : Row). Some (account_in s y)) (sym e)
 sheet-at s (x ∷ rows) (suc k) r d h e = sheet-at s rows k r d (omega arith) e
 
-pub sheet-past : (s : Store) (rows : List Row) (k : ℕ) → length rows ≤ k → slice_get (sheet_of s rows) k ≡ None
-sheet-past s [] k h = refl
-sheet-past s (x ∷ rows) zero h = absurd (omega arith)
-sheet-past s (x ∷ rows) (suc k) h = sheet-past s rows k (omega arith)
-
 pub account-shown : (s : Store) (rows : List Row) (k : ℕ) (r d : Row) (c : SponsorCell) → k < length rows → r ≡ get_or rows k d → sponsor_at s r.sponsor ≡ Some c → Some (shown (account_with r c)) ≡ option_map shown (slice_get (sheet_of s rows) k)
 account-shown s rows k r d c h e j = ap (λ (o : Option SponsorCell). Some (shown (account_with r (cell_or_new o)))) (sym j) ∙ ap (option_map shown) (sym (sheet-at s rows k r d h e))
 
