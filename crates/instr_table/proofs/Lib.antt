@@ -2,6 +2,10 @@ mod Examples
 mod ListExamples
 mod EventExamples
 mod RoundTrip
+pub mod Spellings
 pub mod Charges
+pub mod Assignments
 pub mod GotWords
 pub mod KnownWords
+pub mod Authorities
+pub mod ShownWords

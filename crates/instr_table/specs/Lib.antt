@@ -14,3 +14,4 @@ pub mod Row
 pub mod Lane
 pub mod Reach
 pub mod Laws
+pub mod Authority

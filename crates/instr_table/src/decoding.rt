@@ -1,8 +1,9 @@
 // From quads to operations.
 
-ghost use Rattle.std.specs.Prelude.{◌≡◌};
+ghost use Rattle.std.specs.Prelude.{◌≡◌, IsTrue, IfSome};
 ghost use Rattle.cap_words.specs.Words.{number_of};
 ghost use Rattle.instr_table.specs.Code.{operation, named, bare, within, turns, passing, quad_operation, alu_operation, actor_operation, dict_operation, deque_operation, sponsor_operation};
+ghost use Rattle.instr_table.specs.Spelling.{is_op, spelled};
 
 use crate::op::Op;
 use cap_words::{Quad, Word};
@@ -11,6 +12,14 @@ use cap_words::{Quad, Word};
 /// or its third is no operand of that operation. The fourth word, which names the next instruction, is not looked at.
 pub fn decode(q: Quad) -> Option<Op>
     ensures value { result ≡ operation q }
+    ensures in_row { IfSome result (λ op. IsTrue (is_op op)) }
+    ensures spelled { IfSome result (λ op. q ≡ spelled op q.z) }
+{
+    operation(q)
+}
+
+fn operation(q: Quad) -> Option<Op>
+    ensures { result ≡ operation q }
 {
     if q.t != Word::INSTR_T {
         return None;
