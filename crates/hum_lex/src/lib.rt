@@ -4,6 +4,8 @@
 mod bytes;
 mod error;
 mod front;
+#[cfg(test)]
+mod tests;
 mod text;
 mod whole;
 mod word;

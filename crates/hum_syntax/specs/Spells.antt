@@ -1,5 +1,7 @@
--- The grammar: which tokens spell which tree. The number is how many levels may still stand below the rule.
-use Rattle.std.specs.Prelude.{ℕ, suc, ℤ, List, [], ◌∷◌, ◌++◌, Option, Some, None}
+-- The grammar: which tokens spell which tree. The number says how many levels may still stand below the rule, which is at
+-- depth 200 less that number. Spans play no part.
+use Rattle.std.specs.Prelude.{ℕ, suc, ℤ, List, [], ◌∷◌, ◌++◌, map, Option, Some, None}
+use Rattle.hum_syntax.specs.declared.token.Token.{Token}
 use Rattle.hum_syntax.specs.declared.token.TokenKind.{TokenKind}
 use Rattle.hum_syntax.specs.declared.token.TokenKind.TheVariants as k
 use Rattle.hum_syntax.specs.declared.keyword.Keyword.TheVariants as w
@@ -16,6 +18,9 @@ use Rattle.hum_syntax.specs.declared.tree.Tree.{Tree}
 abbrev pub Kinds : Type 0
 Kinds = List TokenKind
 
+abbrev pub kinds : List Token → Kinds
+kinds ts = map (λ t. t.kind) ts
+
 abbrev pub arm : Pat → Expr → Arm
 arm pattern value = roll-Arm (record { pattern = pattern; value = value })
 
@@ -23,10 +28,12 @@ abbrev pub branch : Expr → List Stmt → Branch
 branch condition block = roll-Branch (record { condition = condition; block = block })
 
 mutual
+  -- statements follow one another at one depth
   pub data IsStmts : ℕ → Kinds → List Stmt → Type 0 where
     stmts_none : {n : ℕ} → IsStmts n [] []
     stmts_more : {n : ℕ} {us vs : Kinds} {x : Stmt} {xs : List Stmt} → IsStmt n us x → IsStmts n vs xs → IsStmts n (us ++ vs) (x ∷ xs)
 
+  -- what a statement uses is one deeper
   pub data IsStmt : ℕ → Kinds → Stmt → Type 0 where
     let_is : {n : ℕ} {us vs : Kinds} {x : Pat} {a : Expr} → IsPat n us x → IsExpr n vs a
         → IsStmt (suc n) (k.Keyword w.KwLet ∷ us ++ k.Equals ∷ vs) (s.Let x a)
@@ -42,17 +49,19 @@ mutual
     throw : {n : ℕ} {us : Kinds} {a : Expr} → IsExpr n us a → IsStmt (suc n) (k.Keyword w.KwThrow ∷ us) (s.Throw a)
     does : {n : ℕ} {us : Kinds} {a : Expr} → IsExpr n us a → IsStmt (suc n) us (s.Do a)
 
+  -- one item, or a tuple of several
   pub data IsExpr : ℕ → Kinds → Expr → Type 0 where
     expr_only : {n : ℕ} {us : Kinds} {a : Expr} → IsItems n us (a ∷ []) → IsExpr n us a
     expr_tuple : {n : ℕ} {us : Kinds} {a b : Expr} {xs : List Expr} → IsItems n us (a ∷ b ∷ xs) → IsExpr n us (e.Tuple (a ∷ b ∷ xs))
 
-  -- what stands between commas; an abstraction takes all that follows
+  -- what stands between commas, all at one depth; an abstraction takes all that follows
   pub data IsItems : ℕ → Kinds → List Expr → Type 0 where
     item_abs : {n : ℕ} {us vs : Kinds} {x : Pat} {a : Expr} → IsPat n us x → IsExpr n vs a
         → IsItems (suc n) (k.Backslash ∷ us ++ k.Dot ∷ vs) (e.Abs x a ∷ [])
     item_last : {n : ℕ} {us : Kinds} {a : Expr} → IsTerm n us a → IsItems n us (a ∷ [])
     item_comma : {n : ℕ} {us vs : Kinds} {a : Expr} {xs : List Expr} → IsTerm n us a → IsItems n vs xs → IsItems n (us ++ k.Comma ∷ vs) (a ∷ xs)
 
+  -- an atom with its calls, or a form that begins with a keyword
   pub data IsTerm : ℕ → Kinds → Expr → Type 0 where
     chain : {n : ℕ} {us vs : Kinds} {f a : Expr} → IsAtom n us f → IsCalls (suc n) f vs a → IsTerm n (us ++ vs) a
     new : {n : ℕ} {us : Kinds} {a : Expr} → IsTerm n us a → IsTerm (suc n) (k.Keyword w.KwNew ∷ us) (e.New a)
@@ -69,6 +78,7 @@ mutual
     calls_call : {n : ℕ} {f x a : Expr} {us vs : Kinds} → IsExpr n us x → IsCalls (suc n) (e.Call f x) vs a
         → IsCalls (suc (suc n)) f (k.CallParen ∷ us ++ k.ParenRight ∷ vs) a
 
+  -- parentheses leave no trace
   pub data IsAtom : ℕ → Kinds → Expr → Type 0 where
     number : {n : ℕ} {z : ℤ} → IsAtom n (k.Number z ∷ []) (e.Num z)
     symbol : {n : ℕ} {t : List ℕ} → IsAtom n (k.Symbol t ∷ []) (e.Sym t)
@@ -86,11 +96,13 @@ mutual
   pub data IsBlock : ℕ → Kinds → List Stmt → Type 0 where
     square : {n : ℕ} {us : Kinds} {xs : List Stmt} → IsStmts n us xs → IsBlock n (k.SquareLeft ∷ us ++ k.SquareRight ∷ []) xs
 
+  -- conditions and their blocks, behind `IF` and each `ELIF`
   pub data IsBranches : ℕ → Kinds → List Branch → Type 0 where
     branch_last : {n : ℕ} {us vs : Kinds} {a : Expr} {ys : List Stmt} → IsExpr n us a → IsBlock n vs ys → IsBranches n (us ++ vs) (branch a ys ∷ [])
     branch_elif : {n : ℕ} {us vs ws : Kinds} {a : Expr} {ys : List Stmt} {xs : List Branch} → IsExpr n us a → IsBlock n vs ys → IsBranches n ws xs
         → IsBranches n (us ++ (vs ++ k.Keyword w.KwElif ∷ ws)) (branch a ys ∷ xs)
 
+  -- one arm at least
   pub data IsArms : ℕ → Kinds → List Arm → Type 0 where
     arms_last : {n : ℕ} {us : Kinds} {x : Arm} → IsArm n us x → IsArms n us (x ∷ [])
     arms_more : {n : ℕ} {us vs : Kinds} {x : Arm} {xs : List Arm} → IsArm n us x → IsArms n vs xs → IsArms n (us ++ vs) (x ∷ xs)
@@ -98,6 +110,7 @@ mutual
   pub data IsArm : ℕ → Kinds → Arm → Type 0 where
     colon : {n : ℕ} {us vs : Kinds} {x : Pat} {a : Expr} → IsPat n us x → IsExpr n vs a → IsArm (suc n) (us ++ k.Colon ∷ vs) (arm x a)
 
+  -- one pattern, or a tuple of several
   pub data IsPat : ℕ → Kinds → Pat → Type 0 where
     pat_only : {n : ℕ} {us : Kinds} {x : Pat} → IsPats n us (x ∷ []) → IsPat n us x
     pat_tuple : {n : ℕ} {us : Kinds} {x y : Pat} {xs : List Pat} → IsPats n us (x ∷ y ∷ xs) → IsPat n us (p.Tuple (x ∷ y ∷ xs))
@@ -119,9 +132,10 @@ mutual
     p_empty : {n : ℕ} → IsPterm n (k.ParenLeft ∷ k.ParenRight ∷ []) p.Nil
     p_paren : {n : ℕ} {us : Kinds} {x : Pat} → IsPat n us x → IsPterm (suc n) (k.ParenLeft ∷ us ++ k.ParenRight ∷ []) x
 
--- A program's statements are at depth 1, and the last depth is 200.
+-- the levels below a program's statements, which are at depth 1
 abbrev pub deepest : ℕ
 deepest = 199
 
+-- The tokens spell the tree, no deeper than 200.
 abbrev pub Spells : Kinds → Tree → Type 0
 Spells ts tree = IsStmts deepest ts tree.statements
