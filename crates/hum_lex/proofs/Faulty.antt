@@ -1,17 +1,17 @@
 -- Where a text has a fault, no tokens go on.
-use Rattle.std.proofs.Common.{◌≡◌, ℕ, suc, ◌+◌, ◌<◌, ◌≤◌, Bool, true, false, cond, List, [], ◌∷◌, ◌++◌, length, take, drop, Option, Some, None, refl, sym, ap, ◌∙◌, subst, arith, ◌⊎◌, inl, inr, length-append, append_assoc}
-use Rattle.std.specs.Prelude.{not, if◌then◌else◌, ◌&&◌, ◌||◌, ◌==◌, nat_le, nat_eq}
-use Rattle.std.proofs.lemmas.Bool.{cond-true, cond-false, and_parts, and_from, or_cases, not-true, cases_Bool, eqb-true, both_ways, false_from_ne_true}
+use Rattle.std.proofs.Common.{◌≡◌, ℕ, ◌+◌, ◌<◌, true, false, List, ◌∷◌, ◌++◌, length, drop, refl, sym, ap, ◌∙◌, arith, inl, inr}
+use Rattle.std.specs.Prelude.{◌||◌, ◌==◌}
+use Rattle.std.proofs.lemmas.Bool.{cond-false, or_cases, eqb-true, both_ways, false_from_ne_true}
 use Rattle.hum_syntax.specs.declared.TokenKind.{TokenKind}
-use Rattle.hum_syntax.specs.Forms.{Bytes, is_blank, is_delimiter, is_run_byte, is_text, text_bytes}
+use Rattle.hum_syntax.specs.Forms.{Bytes, is_blank, is_delimiter, is_run_byte, text_bytes}
 use Rattle.hum_syntax.specs.Kinds.{kind_of_run}
-use Rattle.hum_syntax.specs.Tokens.{Placed, placed, is_callee, weight_of, weight, weight_limit}
-use Rattle.hum_syntax.specs.Lexes.{IsWholeRun, is_large, is_reserved, Stands, Spot, spot, Step, blank, comment, token, Leads, here, step, start, Lexes, IsTokens}
+use Rattle.hum_syntax.specs.Tokens.{Placed, weight_of, weight, weight_limit}
+use Rattle.hum_syntax.specs.Lexes.{IsWholeRun, is_large, is_reserved, Stands, Spot, Step, token}
 use Rattle.hum_lex.specs.declared.error.LexCause.{LexCause}
-use Rattle.hum_lex.specs.Faults.{IsStray, Fault, stray, hash_delimiter, hash_stray, open_text, bad_text, long_run, long_symbol, large, reserved, heavy, IsRefusedAt}
+use Rattle.hum_lex.specs.Faults.{Fault, stray, hash_delimiter, hash_stray, open_text, bad_text, long_run, long_symbol, large, reserved, heavy}
 use Rattle.hum_lex.proofs.Runs.{same_front}
 use Rattle.hum_lex.proofs.Texts.{same_inside, text_goes_on, inside_text}
-use Rattle.hum_lex.proofs.Leads.{lead, lead_run, lead_symbol, lead_stray, run_first, run_byte, high_no_blank, one_step, IsRunStep, run_step, IsSymbolStep, symbol_step, IsTextStep, text_step, no_step, end_step}
+use Rattle.hum_lex.proofs.Leads.{lead, lead_run, lead_symbol, lead_stray, run_first, run_byte, one_step, IsRunStep, run_step, symbol_step, text_step, no_step}
 
 delimiter_no_blank : (b : ℕ) → is_delimiter b ≡ true → is_blank b ≡ false
 delimiter_no_blank b is = false_from_ne_true (is_blank b) (λ h.

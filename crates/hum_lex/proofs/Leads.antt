@@ -1,9 +1,8 @@
 -- The first bytes tell what stands at a place, so one step leads on from it.
-use Rattle.std.proofs.Common.{◌≡◌, ℕ, suc, ◌+◌, ◌<◌, ◌≤◌, Bool, true, false, cond, List, [], ◌∷◌, ◌++◌, length, take, drop, Option, Some, None, refl, sym, ap, ◌∙◌, subst, arith, ◌⊎◌, inl, inr, length-append, append_assoc}
-use Rattle.std.specs.Prelude.{not, if◌then◌else◌, ◌&&◌, ◌||◌, ◌==◌, nat_le, nat_eq}
+use Rattle.std.proofs.Common.{◌≡◌, ℕ, ◌+◌, ◌<◌, ◌≤◌, Bool, true, false, cond, List, [], ◌∷◌, ◌++◌, length, drop, Option, Some, None, refl, sym, ap, ◌∙◌, subst, arith, inl, inr, append_assoc}
+use Rattle.std.specs.Prelude.{not, if◌then◌else◌, ◌&&◌, ◌||◌, ◌==◌, nat_le}
 use Rattle.std.specs.List.{list_all}
-use Rattle.std.proofs.lemmas.Bool.{cond-true, cond-false, and_parts, and_from, or_cases, or_parts, or_from, not-true, not_from_false, cases_Bool, cases_eq, eq-eqb, ne_eqb, eqb-true, eqb-false, leb-true, true≢false, both_ways, false_from_ne_true}
-use Rattle.std.proofs.lemmas.Bool.Decides.{nat_tests}
+use Rattle.std.proofs.lemmas.Bool.{cond-true, cond-false, and_parts, or_cases, not-true, cases_eq, ne_eqb, eqb-true, leb-true, both_ways, false_from_ne_true}
 use Rattle.hum_syntax.specs.declared.TokenKind.{TokenKind}
 use Rattle.hum_syntax.specs.declared.TokenKind.TheVariants as k
 use Rattle.hum_syntax.specs.Forms.{Bytes, is_blank, is_delimiter, is_run_byte, is_text, text_bytes}

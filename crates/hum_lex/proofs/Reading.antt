@@ -1,25 +1,22 @@
 -- What the lexer finds at the front.
-use Rattle.std.proofs.Common.{◌≡◌, ℕ, suc, ◌+◌, ◌<◌, ◌≤◌, Bool, true, false, cond, List, [], ◌∷◌, ◌++◌, length, take, drop, slice_index, Option, Some, None, refl, sym, ap, ◌∙◌, subst, arith, inl, inr, length-append, append_assoc, length-drop, length-take-le, take-append-drop, add-one}
-use Rattle.std.specs.Prelude.{not, ◌&&◌, ◌||◌, ◌==◌, nat_le, nat_lt, is_none, Result, Ok, Err}
+use Rattle.std.proofs.Common.{◌≡◌, ℕ, suc, ◌+◌, ◌<◌, ◌≤◌, Bool, true, false, cond, [], ◌∷◌, ◌++◌, length, take, drop, slice_index, Option, Some, None, refl, sym, ap, ◌∙◌, subst, arith, inl, inr, length-append, append_assoc, length-take-le, take-append-drop}
+use Rattle.std.specs.Prelude.{not, ◌&&◌, ◌==◌, nat_le, nat_lt, is_none, Ok, Err}
 use Rattle.std.specs.List.{list_all, prefix_len}
-use Rattle.std.proofs.lemmas.Bool.{cond-true, cond-false, and_parts, and_from, not-true, not_from_false, not_from_true, cases_Bool, le-leb, lt-ltb, both_ways, ne_eqb, or_from, not-false}
+use Rattle.std.proofs.lemmas.Bool.{cond-true, cond-false, and_from, cases_Bool, le-leb, lt-ltb, both_ways, ne_eqb, or_from, not-false}
 use Rattle.std.proofs.lemmas.List.Sums.{prefix_len-le-length}
-use Rattle.std.proofs.lemmas.List.Folds.{length-prefix_len}
 use Rattle.std.proofs.Math.Seq.{take-append_seam, drop-append_seam}
 use Rattle.hum_syntax.specs.declared.keyword.Keyword.{Keyword}
 use Rattle.hum_syntax.specs.declared.TokenKind.{TokenKind}
 use Rattle.hum_syntax.specs.declared.TokenKind.TheVariants as k
 use Rattle.hum_syntax.specs.Forms.{Bytes, is_blank, is_delimiter, is_run_byte, is_run, is_number, number_of, is_in_range, keyword_of, is_wildcard, is_undefined, is_name, is_text, text_bytes}
 use Rattle.hum_syntax.specs.Kinds.{kind_of_run, word_kind, is_carried}
-use Rattle.hum_syntax.specs.Tokens.{Placed, placed, is_callee}
-use Rattle.hum_syntax.specs.Lexes.{ends_or, is_line_feed, IsWholeRun, is_large, is_reserved, mark_of, Stands, run, symbol, text, mark, IsComment, Spot, spot, Step, blank, comment, token}
+use Rattle.hum_syntax.specs.Lexes.{ends_or, is_line_feed, IsWholeRun, is_large, is_reserved, mark_of, Stands, run, symbol, text, mark, IsComment, spot, Step, blank, comment}
 use Rattle.hum_lex.specs.declared.error.LexCause.{LexCause}
 use Rattle.hum_lex.specs.declared.error.LexCause.TheVariants as cause
-use Rattle.hum_lex.specs.Faults.{IsStray, Fault, stray, hash_delimiter, hash_stray, open_text, bad_text, long_run, long_symbol, large, reserved, is_inside, BeginsNoPoint}
+use Rattle.hum_lex.specs.Faults.{IsStray, Fault, stray, hash_delimiter, hash_stray, open_text, bad_text, long_run, long_symbol, large, reserved, is_inside}
 use Rattle.hum_lex.specs.Fronts.{allowed_kind, closing, IsGap, IsToken, IsFault, IsBadAt}
 use Rattle.hum_lex.proofs.Runs.{list_all-prefix, ends_or-prefix}
 use Rattle.hum_lex.proofs.Texts.{IsClosed, closed, not_closed}
-use Rattle.hum_lex.proofs.Leads.{run_byte}
 
 -- ---- blanks and comments
 

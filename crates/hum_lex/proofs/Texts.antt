@@ -1,18 +1,16 @@
 -- Where a text ends, and that it is written in one way.
-use Rattle.std.proofs.Common.{◌≡◌, ℕ, suc, ◌+◌, ◌/◌, ◌%◌, ◌<◌, ◌≤◌, Bool, true, false, cond, List, [], ◌∷◌, ◌++◌, length, take, drop, slice_index, Option, Some, None, refl, sym, ap, ◌∙◌, subst, arith, ◌⊎◌, inl, inr, length-append, append_assoc}
-use Rattle.std.specs.Prelude.{not, if◌then◌else◌, ◌&&◌, ◌||◌, ◌==◌, nat_le, MatchOption}
+use Rattle.std.proofs.Common.{◌≡◌, ℕ, suc, ◌+◌, ◌/◌, ◌%◌, ◌<◌, ◌≤◌, Bool, true, false, List, [], ◌∷◌, ◌++◌, length, take, drop, Option, Some, None, refl, sym, ap, ◌∙◌, subst, arith, inl, inr, length-append, append_assoc}
+use Rattle.std.specs.Prelude.{not, ◌&&◌, ◌==◌}
 use Rattle.std.specs.Char.{encode_utf8}
-use Rattle.std.specs.List.{list_all, flat_map}
+use Rattle.std.specs.List.{list_all}
 use Rattle.std.specs.Option.{option_map}
-use Rattle.std.proofs.lemmas.Bool.{cond-true, cond-false, and_parts, and_from, or_cases, not-true, cases_Bool, cases_eq, eq-eqb, ne_eqb, eqb-true, eqb-false, true≢false, cases_lt, lt-ltb, le-ltb}
-use Rattle.std.proofs.lemmas.Bool.Decides.{nat_tests}
+use Rattle.std.proofs.lemmas.Bool.{cond-true, cond-false, and_parts, and_from, not-true, cases_Bool, ne_eqb, eqb-true, true≢false, cases_lt, lt-ltb, le-ltb}
 use Rattle.std.proofs.lemmas.List.{append_cancel_left}
-use Rattle.std.proofs.lemmas.List.Folds.{list_all-append}
-use Rattle.std.proofs.Math.Seq.{take-append_seam, drop-append_seam}
+use Rattle.std.proofs.Math.Seq.{take-append_seam}
 use Rattle.hum_syntax.specs.Forms.{is_point, is_text, point_bytes, text_bytes}
 use Rattle.hum_lex.specs.Faults.{BeginsNoPoint, is_inside}
-use Rattle.hum_lex.specs.Fronts.{closing, is_plain}
-use Rattle.hum_lex.proofs.Points.{IsOrdinary, point_cases, point_same, point_no_quote, point_some}
+use Rattle.hum_lex.specs.Fronts.{closing}
+use Rattle.hum_lex.proofs.Points.{point_cases, point_same, point_no_quote, point_some}
 
 -- a text is written in one way
 pub text_same : (cs ds us vs : List ℕ) → is_text cs ≡ true → is_text ds ≡ true → text_bytes cs ++ 34 ∷ us ≡ text_bytes ds ++ 34 ∷ vs → (cs ≡ ds) × (us ≡ vs)

@@ -1,10 +1,10 @@
 -- The tokens so far, and what becomes of them.
-use Rattle.std.proofs.Common.{◌≡◌, ℕ, suc, ◌+◌, ◌<◌, ◌≤◌, Bool, true, false, List, [], ◌∷◌, ◌++◌, length, take, drop, refl, sym, ap, ◌∙◌, subst, arith, length-append, append_assoc, length-drop, length-take-le, take-append-drop}
+use Rattle.std.proofs.Common.{◌≡◌, ℕ, ◌+◌, ◌<◌, ◌≤◌, Bool, false, List, [], ◌∷◌, ◌++◌, length, take, drop, refl, sym, ap, ◌∙◌, subst, arith, append_assoc, length-drop, length-take-le, take-append-drop}
 use Rattle.std.proofs.lemmas.List.{append-nil, drop-drop}
 use Rattle.hum_syntax.specs.declared.TokenKind.{TokenKind}
 use Rattle.hum_syntax.specs.Forms.{Bytes}
 use Rattle.hum_syntax.specs.Tokens.{Placed, placed, is_callee, weight_of, weight, weight_limit}
-use Rattle.hum_syntax.specs.Lexes.{Spot, spot, Step, token, Stands, Leads, here, step, start, Lexes, IsTokens}
+use Rattle.hum_syntax.specs.Lexes.{Spot, spot, Step, token, Leads, here, step, start, IsTokens}
 use Rattle.hum_lex.specs.declared.error.LexCause.{LexCause}
 use Rattle.hum_lex.specs.declared.error.LexCause.TheVariants as cause
 use Rattle.hum_lex.specs.declared.error.LexError.{LexError}

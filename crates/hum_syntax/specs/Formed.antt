@@ -1,7 +1,6 @@
 -- What every tree keeps, whatever it was made from.
-use Rattle.std.specs.Prelude.{ℕ, Bool, true, not, ◌&&◌, nat_le, List, length, codes, Option, Some, None}
+use Rattle.std.specs.Prelude.{ℕ, Bool, true, not, ◌&&◌, nat_le, List, length, codes, Some, None}
 use Rattle.std.specs.List.{list_all}
-use Rattle.std.specs.Option.{option_map_or}
 use Rattle.std.specs.Str.{bytes_eq}
 use Rattle.hum_syntax.specs.declared.tree.Stmt.{Stmt, fold-Stmt}
 use Rattle.hum_syntax.specs.declared.tree.Expr.{Expr, fold-Expr}

@@ -1,5 +1,5 @@
 -- The names of a tree, in the order in which they are spelled.
-use Rattle.std.specs.Prelude.{ℕ, List, [], ◌∷◌, ◌++◌, Option, Some, None}
+use Rattle.std.specs.Prelude.{List, [], ◌∷◌, ◌++◌, Some, None}
 use Rattle.std.specs.List.{flat_map}
 use Rattle.hum_syntax.specs.declared.tree.Stmt.{Stmt, fold-Stmt}
 use Rattle.hum_syntax.specs.declared.tree.Expr.{Expr, fold-Expr}

@@ -1,6 +1,6 @@
 -- How large a tree is: one for each node but a statement that is an expression, one for each byte of a symbol and one for
 -- each code point of a text.
-use Rattle.std.specs.Prelude.{ℕ, ◌+◌, List, length, Option, Some, None, sum, map}
+use Rattle.std.specs.Prelude.{ℕ, ◌+◌, List, length, Some, None, sum, map}
 use Rattle.hum_syntax.specs.declared.tree.Stmt.{Stmt, fold-Stmt}
 use Rattle.hum_syntax.specs.declared.tree.Expr.{Expr, fold-Expr}
 use Rattle.hum_syntax.specs.declared.tree.Pat.{Pat, fold-Pat}

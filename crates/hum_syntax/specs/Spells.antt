@@ -1,6 +1,6 @@
 -- The grammar: which tokens spell which tree. The number says how many levels may still stand below the rule, which is at
 -- depth 200 less that number. Spans play no part.
-use Rattle.std.specs.Prelude.{ℕ, suc, ℤ, List, [], ◌∷◌, ◌++◌, map, Option, Some, None}
+use Rattle.std.specs.Prelude.{ℕ, suc, ℤ, List, [], ◌∷◌, ◌++◌, map, Some, None}
 use Rattle.hum_syntax.specs.declared.token.Token.{Token}
 use Rattle.hum_syntax.specs.declared.token.TokenKind.{TokenKind}
 use Rattle.hum_syntax.specs.declared.token.TokenKind.TheVariants as k

@@ -2,6 +2,8 @@
 #![tactic(auto)]
 
 mod keyword;
+#[cfg(test)]
+mod tests;
 mod token;
 mod tree;
 mod word;

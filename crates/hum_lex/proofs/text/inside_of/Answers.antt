@@ -1,7 +1,6 @@
-use Rattle.std.proofs.Common.{subst, sym, arith, take, drop, length, ◌-◌, ◌+◌}
+use Rattle.std.proofs.Common.{subst, sym, arith, drop, ◌+◌}
 use Rattle.hum_lex.specs.Fronts.{IsPointAt}
-use Rattle.hum_lex.specs.Faults.{BeginsNoPoint}
-use Rattle.hum_lex.proofs.Insides.{IsInsideAt, inside_more, inside_within, inside_end, inside_bad, rest_is}
+use Rattle.hum_lex.proofs.Insides.{IsInsideAt, inside_more, inside_within, rest_is}
 use Rattle.hum_lex.proofs.Points.{point_len}
 use Rattle.hum_lex.proofs.text.inside_of.Goals as goal
 

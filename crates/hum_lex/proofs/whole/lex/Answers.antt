@@ -1,9 +1,8 @@
-use Rattle.std.proofs.Common.{◌≡◌, false, ap, sym, subst, ◌∙◌, ◌+◌, ◌++◌, ◌∷◌, [], length, take, drop, ◌-◌, arith}
-use Rattle.hum_syntax.specs.Tokens.{all_placed, placed, is_callee, weight_of}
+use Rattle.std.proofs.Common.{false, sym, subst, ◌+◌, arith}
+use Rattle.hum_syntax.specs.Tokens.{all_placed}
 use Rattle.hum_lex.specs.Fronts.{IsGap, IsToken, IsFault}
-use Rattle.hum_lex.specs.declared.error.LexCause.TheVariants as cause
 use Rattle.hum_lex.proofs.Insides.{rest_is}
-use Rattle.hum_lex.proofs.Wholes.{IsReached, reached_start, reached_gap, reached_token, reached_end, refused_fault, refused_heavy, refused_only, refused_told, heavy_only, heavy_told, one_list}
+use Rattle.hum_lex.proofs.Wholes.{IsReached, reached_start, reached_gap, reached_token, reached_end, refused_fault, refused_only, refused_told, heavy_only, heavy_told, one_list}
 use Rattle.hum_lex.proofs.whole.lex.Goals as goal
 
 pub loop-at-init : goal.loop-at-init
