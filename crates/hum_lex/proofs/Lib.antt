@@ -1,0 +1,9 @@
+pub mod Runs
+pub mod Points
+pub mod Texts
+pub mod Leads
+pub mod Faulty
+pub mod Wholes
+pub mod Reading
+pub mod Numbers
+pub mod Insides

@@ -1,0 +1,14 @@
+//! Tokens and trees of the language, and what it is for a text to lex to tokens and for tokens to spell a tree.
+#![tactic(auto)]
+
+mod keyword;
+#[cfg(test)]
+mod tests;
+mod token;
+mod tree;
+mod word;
+
+pub use keyword::{KEYWORDS, Keyword};
+pub use token::{Token, TokenKind};
+pub use tree::{Arm, Branch, Expr, Pat, Stmt, Tree};
+pub use word::{Name, Sym, Text};
