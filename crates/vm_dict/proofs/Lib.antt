@@ -1,0 +1,6 @@
+pub mod Reading
+pub mod Taking
+pub mod Entries
+pub mod Copies
+pub mod Items
+pub mod Turns

@@ -1,0 +1,4 @@
+pub mod Made
+pub mod Calls
+pub mod Operands
+pub mod Ends
