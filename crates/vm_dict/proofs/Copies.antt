@@ -1,5 +1,5 @@
 -- Entries that are copied in front of a tail.
-use Rattle.std.proofs.Common.{◌≡◌, ℕ, zero, suc, ◌+◌, ◌<◌, ◌≤◌, List, [], ◌∷◌, ◌++◌, length, reverse, Option, Some, None, refl, ap, ap₂, sym, ◌∙◌, subst, arith, add-one}
+use Rattle.std.proofs.Common.{◌≡◌, ℕ, zero, suc, ◌+◌, ◌<◌, ◌≤◌, List, [], ◌∷◌, ◌++◌, length, reverse, Option, Some, None, refl, ap, sym, ◌∙◌, subst, arith, add-one}
 use Rattle.std.specs.Prelude.{option_map}
 use Rattle.std.proofs.lemmas.List.{length-reverse, reverse-append}
 use Rattle.cap_words.specs.declared.word.Quad.{Quad}
@@ -12,7 +12,7 @@ use Rattle.instr_table.specs.Dictionary.{entry_in, entry_quad, entries_to, entri
 use Rattle.instr_table.proofs.Charges.{length-linked}
 use Rattle.vm_dict.specs.declared.dict.Found.{Found}
 use Rattle.vm_dict.specs.Made.{Takes, HasRoom}
-use Rattle.vm_dict.specs.Calls.{found, set_in, deleted_in}
+use Rattle.vm_dict.specs.Calls.{found, set_in}
 use Rattle.vm_dict.proofs.Taking.{cell-grown, takes-none, takes-append, takes-cons, next-takes, used-takes, room-takes}
 use Rattle.vm_dict.proofs.Entries.{entries-zero, entries-none, entries-some, entries-whole, before-first}
 
@@ -28,7 +28,7 @@ last-more n (y ∷ xs) x tail = last-more (suc n) xs x (Ram n) ∙ ap Ram (omega
 
 -- ---- a dictionary after cells were taken
 
-entry-grown : (s : Seen) (cells : List Slot) (w : W) (e : Quad) → entry_in (cell_seen s w) ≡ Some e → entry_in (cell_seen (grown s cells) w) ≡ Some e
+pub entry-grown : (s : Seen) (cells : List Slot) (w : W) (e : Quad) → entry_in (cell_seen s w) ≡ Some e → entry_in (cell_seen (grown s cells) w) ≡ Some e
 entry-grown s cells w e h = from (cell_seen s w) refl
   where
     from : (o : Option Quad) → cell_seen s w ≡ o → entry_in (cell_seen (grown s cells) w) ≡ Some e
@@ -116,7 +116,7 @@ found-none key es h = from (first_with key es) refl
     from None k = k
     from (Some e) k =
         let n : found key es ≡ Some (record { before = length (before key es); entry = e }) = ap (option_map (λ (e : Quad). record { before = length (before key es); entry = e })) k in
-        let x : None ≡ Some (record { before = length (before key es); entry = e }) = h ∙ n in cc
+        let x : found key es ≡ None = sym h in cc
 
 -- the value
 pub value-found : (key : W) (es : List Quad) (f : Found) → Some f ≡ found key es → Some f.entry.y ≡ option_map (λ (e : Quad). e.y) (first_with key es)

@@ -4,3 +4,6 @@ pub mod Entries
 pub mod Copies
 pub mod Items
 pub mod Turns
+pub mod Standing
+pub mod DictionaryLaws
+pub mod DequeLaws

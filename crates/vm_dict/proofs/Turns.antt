@@ -3,7 +3,7 @@ use Rattle.std.proofs.Common.{◌≡◌, ℕ, zero, suc, ◌+◌, ◌<◌, ◌�
 use Rattle.cap_words.specs.declared.word.Quad.{Quad}
 use Rattle.cap_words.specs.Words.{W, Ram, nil, undef}
 use Rattle.cap_words.specs.Store.{used}
-use Rattle.cap_words.specs.Seen.{Seen, Slot, OpenSlot, seen, grown, cell_seen}
+use Rattle.cap_words.specs.Seen.{Seen, Slot, OpenSlot, seen, cell_seen}
 use Rattle.quad_memory.specs.Memory.{Memory}
 use Rattle.instr_table.specs.Lists.{next_quad, pair_in, pair_quad, items_to, items, longest}
 use Rattle.instr_table.specs.Deque.{Taking, turned, turned_on, taken_from, taking}

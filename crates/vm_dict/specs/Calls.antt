@@ -1,11 +1,11 @@
 -- The table's operations on the dictionaries and deques of a memory.
-use Rattle.std.specs.Prelude.{ℕ, List, length, Option, Some, None, option_map}
+use Rattle.std.specs.Prelude.{List, length, Option, option_map}
 use Rattle.cap_words.specs.declared.word.Quad.{Quad}
 use Rattle.cap_words.specs.Words.{W}
 use Rattle.cap_words.specs.Seen.{Seen, seen}
-use Rattle.instr_table.specs.Lists.{Built, next_quad, one_cell}
+use Rattle.instr_table.specs.Lists.{Built, next_quad}
 use Rattle.instr_table.specs.Dictionary.{before, first_with, dict_added, dict_set, dict_del, entries}
-use Rattle.instr_table.specs.Deque.{Ends, ends, Taking, taking, pushed_front, pushed_back, deque_after, deque_quad}
+use Rattle.instr_table.specs.Deque.{ends, Taking, taking, pushed_front, pushed_back, deque_after}
 use Rattle.quad_memory.specs.Memory.{Memory}
 use Rattle.vm_dict.specs.declared.dict.Found.{Found}
 

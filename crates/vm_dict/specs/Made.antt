@@ -1,5 +1,5 @@
 -- What a call takes of a memory.
-use Rattle.std.specs.Prelude.{◌≡◌, ℕ, ◌+◌, ◌≤◌, List, [], ◌∷◌, length}
+use Rattle.std.specs.Prelude.{◌≡◌, ◌+◌, ◌≤◌, List, [], ◌∷◌, length}
 use Rattle.cap_words.specs.declared.word.Tag.TheVariants.{Ordinary}
 use Rattle.cap_words.specs.Store.{Cell, cell_as, used, taken}
 use Rattle.cap_words.specs.Seen.{Slot, OpenSlot, ActorSlot, UnbornSlot, EventSlot, SponsorSlot, SpentSlot, seen, grown}

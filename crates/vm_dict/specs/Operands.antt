@@ -1,5 +1,5 @@
 -- Operations on dictionaries and deques, and their operands on a stack.
-use Rattle.std.specs.Prelude.{◌≡◌, ℕ, Bool, true, false, List}
+use Rattle.std.specs.Prelude.{◌≡◌, Bool, true, false, List}
 use Rattle.cap_words.specs.Words.{W}
 use Rattle.instr_table.specs.declared.op.Op.{Op}
 use Rattle.instr_table.specs.declared.op.Op.TheVariants.{DictTest, DictPut, DictDel, DequeNew, DequeTest, DequePut, DequeTake}

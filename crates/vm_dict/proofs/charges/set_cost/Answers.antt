@@ -1,7 +1,5 @@
-use Rattle.std.proofs.Common.{◌≡◌, ap, sym, arith, length}
+use Rattle.std.proofs.Common.{arith}
 use Rattle.cap_words.specs.Seen.{seen}
-use Rattle.instr_table.specs.Lists.{Built}
-use Rattle.instr_table.specs.Dictionary.{dict_set}
 use Rattle.vm_dict.proofs.Copies.{length-set, length-set_none}
 use Rattle.vm_dict.proofs.charges.set_cost.Goals as goal
 

@@ -1,7 +1,5 @@
-use Rattle.std.proofs.Common.{◌≡◌}
 use Rattle.cap_words.specs.Seen.{seen}
 use Rattle.instr_table.specs.Deque.{Taking, deque_quad, ends}
-use Rattle.vm_dict.specs.Calls.{taking_in}
 use Rattle.vm_dict.proofs.Turns.{taken-end}
 use Rattle.vm_dict.proofs.deque.deque_pop.Goals as goal
 

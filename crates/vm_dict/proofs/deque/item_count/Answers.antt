@@ -1,4 +1,3 @@
-use Rattle.std.proofs.Common.{sym}
 use Rattle.cap_words.specs.Seen.{seen}
 use Rattle.instr_table.specs.Lists.{longest}
 use Rattle.vm_dict.proofs.Items.{counting-start, counting-more, counting-none, counting-end}

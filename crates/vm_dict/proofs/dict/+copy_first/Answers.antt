@@ -1,6 +1,6 @@
-use Rattle.std.proofs.Common.{◌-◌, arith, refl}
+use Rattle.std.proofs.Common.{◌-◌, arith}
 use Rattle.cap_words.specs.Seen.{seen}
-use Rattle.vm_dict.proofs.Copies.{Copied, copied-whole, copied-there, copied-room, copied-more}
+use Rattle.vm_dict.proofs.Copies.{copied-whole, copied-there, copied-room, copied-more}
 use Rattle.vm_dict.proofs.dict.+copy_first.Goals as goal
 
 pub copy_first-next-requires : goal.copy_first-next-requires
