@@ -10,3 +10,6 @@ mod word;
 pub use fixnums::{compare, wrap_add, wrap_mul, wrap_sub};
 pub use name::Name;
 pub use word::{Kind, Quad, Tag, Word};
+
+#[cfg(test)]
+mod tests;

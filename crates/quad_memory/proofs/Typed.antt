@@ -1,10 +1,10 @@
 -- What is under a word as an actor, an event or a sponsor. Actors and events have the same laws, which take the tag and how the words are read.
 use Rattle.std.proofs.Common.{◌≡◌, ℕ, ◌+◌, ◌<◌, List, [], ◌∷◌, Option, Some, None, refl, ap, ap₂, sym, ◌∙◌, subst, arith}
-use Rattle.std.specs.Prelude.{option_map, slice_get}
+use Rattle.std.specs.Prelude.{option_map, slice_get, IsSome}
 use Rattle.std.proofs.lemmas.Option.{slice_get_within}
 use Rattle.cap_words.specs.declared.word.Quad.{Quad}
 use Rattle.cap_words.specs.declared.word.Tag.{Tag}
-use Rattle.cap_words.specs.declared.word.Tag.TheVariants.{SponsorHeld, SponsorSpent}
+use Rattle.cap_words.specs.declared.word.Tag.TheVariants.{Ordinary, SponsorHeld, SponsorSpent}
 use Rattle.cap_words.specs.Words.{W, Fix, Rom, Ram, Cap}
 use Rattle.cap_words.specs.Store.{Store, Cell, cell, opaque_cell, spent_cell, tagged, used, taken, changed, cell_as, cap_place}
 use Rattle.cap_words.specs.Seen.{seen}
@@ -23,6 +23,20 @@ mapped f (Some q) c h = (q, refl, cc)
 -- the quad that it was read from
 pub at-quad : {C : Type 0} (f : Quad → C) (s : Store) (tag : Tag) (w : W) (c : C) → option_map f (opaque_cell s tag w) ≡ Some c → (q : Quad) × (opaque_cell s tag w ≡ Some q) × (f q ≡ c)
 at-quad f s tag w c h = mapped f (opaque_cell s tag w) c h
+
+pub some : {C : Type 0} (o : Option C) → IsSome o → (c : C) × (o ≡ Some c)
+some None h = cc
+some (Some c) h = (c, refl)
+
+-- a change of it leaves each cell that a program reads
+pub cell-changed_at : {C : Type 0} (f : Quad → C) (s : Store) (v w : W) (tag : Tag) (q : Quad) → IsSome (option_map f (opaque_cell s tag v)) → (tag ≡ Ordinary → ⊥) → cell (changed s (cap_place v) (cell_as tag q)) w ≡ cell s w
+cell-changed_at f s (Fix n) w tag q h out = cc
+cell-changed_at f s (Rom n) w tag q h out = cc
+cell-changed_at f s (Ram n) w tag q h out = cc
+cell-changed_at f s (Cap n) w tag q h out =
+    let k = some (option_map f (opaque_cell s tag (Cap n))) h in
+    let p = at-quad f s tag (Cap n) k.0 k.1 in
+    cell-changed s n tag p.0 q w p.1 out
 
 -- it stays when quads are taken
 pub at-taken : {C : Type 0} (f : Quad → C) (s : Store) (cells : List Cell) (tag : Tag) (w : W) (c : C) → option_map f (opaque_cell s tag w) ≡ Some c → option_map f (opaque_cell (taken s cells) tag w) ≡ Some c

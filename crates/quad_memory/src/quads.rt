@@ -336,5 +336,4 @@ pub fn ordinary_cells_stand()
     ensures actor { (s : Store) (w v : W) (c : ActorCell) → IsSome (actor_at s v) → cell (changed s (cap_place v) (cell_as Tag.Actor (actor_words c))) w ≡ cell s w }
     ensures event { (s : Store) (w v : W) (c : EventCell) → IsSome (event_at s v) → cell (changed s (cap_place v) (cell_as Tag.Event (event_words c))) w ≡ cell s w }
     ensures sponsor { (s : Store) (w v : W) (c : SponsorCell) → IsSome (sponsor_at s v) → cell (sponsor_changed s (cap_place v) c) w ≡ cell s w }
-{
-}
+{}
