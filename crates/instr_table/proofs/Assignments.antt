@@ -8,7 +8,7 @@ use Rattle.instr_table.specs.declared.op.Op.{Op}
 use Rattle.instr_table.specs.declared.op.Op.TheVariants.{Push, Dup, Drop, Pick, Roll, Depth, Pair, Part, Nth, QuadMake, QuadTake, Get, Typeq, Eq, Cmp, AluNot, Alu, If, Jump, Msg, State, My, ActorSend, ActorPost, ActorCreate, ActorAssign, ActorBecome, End, DictTest, DictPut, DictDel, DequeNew, DequeTest, DequePut, DequeTake, SponsorNew, SponsorGrant, SponsorReclaim, SponsorStart, SponsorStop, Assert, Debug}
 use Rattle.instr_table.specs.Types.{is_actor, is_sponsor, is_makeable}
 use Rattle.instr_table.specs.Lists.{item}
-use Rattle.instr_table.specs.Event.{Own, Effects, Behaviour, Made, Assigns, has_created}
+use Rattle.instr_table.specs.Event.{Own, Effects, Behaviour, Assigns, has_created}
 use Rattle.instr_table.specs.Sheet.{Account, runs}
 use Rattle.instr_table.specs.Outcome.{Row, does, faults, not_fresh}
 use Rattle.instr_table.specs.ActorRows.{become_row}

@@ -2,19 +2,18 @@
 use Rattle.std.proofs.Common.{◌≡◌, ℕ, zero, suc, ◌+◌, ◌-◌, ◌<◌, ◌≤◌, Bool, true, false, List, [], ◌∷◌, ◌++◌, length, drop, Option, Some, None, refl, sym, ◌∙◌, ap, subst, inl, inr, ◌⊎◌, arith, if◌then◌else◌, IsTrue, length-append, append_assoc, append-nil, nat_lt, slice_get}
 use Rattle.std.proofs.lemmas.Option.{slice_get_within}
 use Rattle.cap_words.specs.declared.word.Quad.{Quad}
-use Rattle.cap_words.specs.Words.{W, Fix, Rom, Ram, Cap, same_word, undef, nil, pair_t}
+use Rattle.cap_words.specs.Words.{W, Fix, Rom, Ram, Cap, same_word}
 use Rattle.cap_words.specs.Store.{rom_cell}
 use Rattle.cap_words.specs.Seen.{Seen, Slot, OpenSlot, ActorSlot, UnbornSlot, EventSlot, SponsorSlot, SpentSlot, cell_seen, open_in, grown}
-use Rattle.cap_words.specs.Frame.{Among}
 use Rattle.cap_words.proofs.Places.{get-left}
 use Rattle.cap_words.proofs.Same.{word_is}
 use Rattle.instr_table.specs.declared.op.Op.{Op}
-use Rattle.instr_table.specs.Code.{operation, with_next, fetched_in, fetched}
-use Rattle.instr_table.specs.Spelling.{spelling, spelled}
+use Rattle.instr_table.specs.Code.{operation, with_next, fetched_in}
+use Rattle.instr_table.specs.Spelling.{spelling}
 use Rattle.instr_table.specs.Lists.{next_quad, pair_quad}
 use Rattle.instr_table.specs.Event.{Own, Made, Sent, Behaviour, Effects, Effect, Nothing, Sends, Creates, Assigns, Becomes, Sponsors, Grants, Reclaims, Starts, Stops, with_effect, reassigned}
 use Rattle.instr_table.specs.Sheet.{Account}
-use Rattle.instr_table.specs.Outcome.{Outcome, Going, Goes, Faults, Commits}
+use Rattle.instr_table.specs.Outcome.{Going}
 use Rattle.instr_table.specs.Row.{row_at}
 use Rattle.instr_table.specs.Lane.{Item, Lane, values, top_at, push_one, push_all, after_going, lane_row, gone}
 use Rattle.instr_table.specs.Reach.{Every, words_of, Reached, given, inside, IsPlain, IsOpaque, Reach, Got, plain, reached, is_made, Known, got, new, made_now}
@@ -269,7 +268,7 @@ dropped-values P zero is h = h
 dropped-values P (suc n) [] h = tt
 dropped-values P (suc n) (i ∷ is) h = dropped-values P n is h.1
 
-pushed-store : (p : Seen × List Item) (vs : List W) → (cells : List Slot) × ((push_all p vs).0 ≡ grown p.0 cells)
+pub pushed-store : (p : Seen × List Item) (vs : List W) → (cells : List Slot) × ((push_all p vs).0 ≡ grown p.0 cells)
 pushed-store p [] = ([], ap (λ (xs : List Slot). record p.0 { slots = xs }) (sym (append-nil p.0.slots)))
 pushed-store p (v ∷ vs) =
     let h = pushed-store (push_one p v) vs in

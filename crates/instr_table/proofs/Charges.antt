@@ -1,12 +1,12 @@
 -- What each row charges, and that it covers what the row takes.
-use Rattle.std.proofs.Common.{◌≡◌, ℕ, zero, suc, ◌+◌, ◌-◌, ◌≤◌, ℤ, pos, negsuc, Bool, true, false, List, [], ◌∷◌, ◌++◌, length, reverse, drop, Option, Some, None, refl, ap, arith, if◌then◌else◌, unsigned_abs, length-append, nat_lt, nat_le, IfSome, IsTrue}
+use Rattle.std.proofs.Common.{◌≡◌, ℕ, zero, suc, ◌+◌, ◌-◌, ◌≤◌, ℤ, pos, negsuc, Bool, true, false, List, [], ◌∷◌, length, reverse, drop, Option, Some, None, refl, ap, arith, if◌then◌else◌, unsigned_abs, length-append, nat_lt, IfSome, IsTrue}
 use Rattle.std.specs.Ordering.{int_eq}
 use Rattle.std.proofs.Math.Nat.{le_refl}
 use Rattle.std.proofs.lemmas.List.{length-reverse}
 use Rattle.std.proofs.lemmas.Bool.Decides.{nat_tests}
 use Rattle.cap_words.specs.declared.word.Quad.{Quad}
-use Rattle.cap_words.specs.Words.{W, same_word, number_of, undef, nil}
-use Rattle.cap_words.specs.Seen.{Seen, Slot, OpenSlot, cell_seen}
+use Rattle.cap_words.specs.Words.{W, same_word}
+use Rattle.cap_words.specs.Seen.{Seen, cell_seen}
 use Rattle.instr_table.specs.declared.charge.Charge.{Charge}
 use Rattle.instr_table.specs.declared.charge.Quota.{Quota}
 use Rattle.instr_table.specs.declared.op.Op.{Op}
@@ -14,15 +14,14 @@ use Rattle.instr_table.specs.declared.op.Op.TheVariants.{Push, Dup, Drop, Pick, 
 use Rattle.instr_table.specs.Code.{turns}
 use Rattle.instr_table.specs.Spelling.{is_op}
 use Rattle.instr_table.specs.Types.{is_actor, is_sponsor, is_makeable}
-use Rattle.instr_table.specs.Lists.{next_quad, item, top_items, rolled, linked, pair_quad, parted, field_in, fields_in, tail_in, head_in, Built}
-use Rattle.instr_table.specs.Dictionary.{dict_set, dict_added}
+use Rattle.instr_table.specs.Lists.{next_quad, item, top_items, rolled, linked, pair_quad, parted, fields_in, tail_in, head_in, Built}
 use Rattle.instr_table.specs.Deque.{ends, Ends, pushed_front, pushed_back}
 use Rattle.instr_table.specs.Event.{Own, Effects, Behaviour, has_created}
-use Rattle.instr_table.specs.Sheet.{Account, runs, held, spend}
-use Rattle.instr_table.specs.Outcome.{Outcome, Going, Goes, Faults, Commits, Row, charge, going, gives}
+use Rattle.instr_table.specs.Sheet.{Account, runs}
+use Rattle.instr_table.specs.Outcome.{Row, charge, gives}
 use Rattle.instr_table.specs.ActorRows.{become_row}
-use Rattle.instr_table.specs.SponsorRows.{grantable, grant_of, most_sponsors}
-use Rattle.instr_table.specs.Row.{row, row_at, end_row}
+use Rattle.instr_table.specs.SponsorRows.{grant_of, most_sponsors}
+use Rattle.instr_table.specs.Row.{row, row_at}
 use Rattle.instr_table.specs.Laws.{IsCharged, Covers}
 
 -- ---- how long the lists are

@@ -1,17 +1,17 @@
 -- Worked rows on actors and sponsors, and the first instructions of a module that starts a sponsor.
-use Rattle.std.proofs.Common.{◌≡◌, ℕ, pos, negsuc, List, [], ◌∷◌, ◌++◌, Option, Some, None, refl}
+use Rattle.std.proofs.Common.{◌≡◌, ℕ, pos, negsuc, List, [], ◌∷◌, ◌++◌, Some, None, refl}
 use Rattle.cap_words.specs.declared.word.Quad.{Quad}
 use Rattle.cap_words.specs.Words.{W, Fix, Rom, Ram, Cap, undef, nil, instr_t}
 use Rattle.cap_words.specs.Seen.{Seen, Slot, OpenSlot, ActorSlot, UnbornSlot, EventSlot, SponsorSlot, SpentSlot}
 use Rattle.instr_table.specs.declared.charge.Charge.{Charge}
 use Rattle.instr_table.specs.declared.charge.Quota.TheVariants.{Memory, Events, Cycles}
 use Rattle.instr_table.specs.declared.op.Op.{Op}
-use Rattle.instr_table.specs.declared.op.Op.TheVariants.{Push, ActorSend, ActorPost, ActorCreate, ActorAssign, ActorBecome, SponsorNew, SponsorGrant, SponsorReclaim, SponsorStart, SponsorStop}
+use Rattle.instr_table.specs.declared.op.Op.TheVariants.{ActorSend, ActorPost, ActorCreate, ActorAssign, ActorBecome, SponsorGrant, SponsorStart}
 use Rattle.instr_table.specs.Types.{look_up}
 use Rattle.instr_table.specs.Lists.{pair_quad}
-use Rattle.instr_table.specs.Event.{Own, Made, Behaviour, Effects, Effect, no_effects, with_effect, Sends, Creates, Assigns, Becomes, Grants, Reclaims, Sponsors, Starts, Stops}
-use Rattle.instr_table.specs.Sheet.{Amount, Account, Stopped, Running, holding, held, spend, transfer, account, short, sheet_after, reclaim, prepared}
-use Rattle.instr_table.specs.Outcome.{Outcome, Going, Goes, Faults, Commits, Row, charge, not_actor, second_become, not_fresh, not_sponsor, short_of, is_running}
+use Rattle.instr_table.specs.Event.{Own, Effects, no_effects, with_effect, Sends, Creates, Assigns, Becomes, Grants, Reclaims, Starts, Stops}
+use Rattle.instr_table.specs.Sheet.{Account, Stopped, Running, holding, held, spend, transfer, short, sheet_after, prepared}
+use Rattle.instr_table.specs.Outcome.{Outcome, Goes, Faults, Commits, Row, charge, not_actor, second_become, not_fresh, not_sponsor, short_of, is_running}
 use Rattle.instr_table.specs.Row.{row}
 use Rattle.instr_table.specs.Lane.{Lane, begun, values, after_going, lane_row, gone}
 
@@ -112,7 +112,6 @@ started_and_stopped = (refl, refl)
 
 reclaims : sheet_after granted (Cap 0) (Reclaims (Cap 8)) ≡ record (root 10) { memory = record { received = 14; passed = 4; spent = 0; held = 10 }; cycles = record { received = 10; passed = 0; spent = 1; held = 9 } } ∷ record child { memory = record { received = 4; passed = 4; spent = 0; held = 0 } } ∷ []
 reclaims = refl
-
 
 -- the kinds are looked at in order: cycles, memory, events
 short_in_order : (short child (charge 1 1) ≡ Some Cycles) × (short (record child { cycles = holding 1 }) (charge 1 1) ≡ Some Memory) × (short (record child { cycles = holding 1; memory = holding 1 }) (charge 1 1) ≡ Some Events) × (short (record child { cycles = holding 1 }) (charge 0 0) ≡ None)

@@ -1,23 +1,16 @@
 -- Worked rows of the table: what each gives on small stores, stacks and sheets.
-use Rattle.std.proofs.Common.{◌≡◌, ℕ, suc, ◌+◌, ◌-◌, ◌^◌, ℤ, pos, negsuc, List, [], ◌∷◌, ◌++◌, Option, Some, None, refl}
+use Rattle.std.proofs.Common.{◌≡◌, ℕ, pos, negsuc, List, [], ◌∷◌, ◌++◌, None, refl}
 use Rattle.cap_words.specs.declared.word.Quad.{Quad}
-use Rattle.cap_words.specs.Words.{W, Fix, Rom, Ram, Cap, undef, nil, truth, type_t, fixnum_t, actor_t, sponsor_t, instr_t, pair_t, dict_t, deque_t, symbol_t, func_t, block_t}
-use Rattle.cap_words.specs.Seen.{Seen, Slot, OpenSlot, ActorSlot, UnbornSlot, EventSlot, SponsorSlot, SpentSlot, grown, cell_seen}
-use Rattle.instr_table.specs.declared.charge.Charge.{Charge}
-use Rattle.instr_table.specs.declared.charge.Quota.{Quota}
-use Rattle.instr_table.specs.declared.charge.Quota.TheVariants.{Memory, Events, Cycles}
+use Rattle.cap_words.specs.Words.{W, Fix, Rom, Ram, Cap, undef, nil, type_t, fixnum_t, actor_t, sponsor_t, instr_t, pair_t, func_t}
+use Rattle.cap_words.specs.Seen.{Seen, Slot, OpenSlot, ActorSlot, EventSlot, SponsorSlot, SpentSlot}
 use Rattle.instr_table.specs.declared.op.Op.{Op}
-use Rattle.instr_table.specs.declared.op.Op.TheVariants.{Push, Dup, Drop, Pick, Roll, Depth, Pair, Part, Nth, QuadMake, QuadTake, Get, Typeq, Eq, Cmp, AluNot, Alu, If, Jump, Msg, State, My, ActorSend, ActorPost, ActorCreate, ActorAssign, ActorBecome, End, DictTest, DictPut, DictDel, DequeNew, DequeTest, DequePut, DequeTake, SponsorNew, SponsorGrant, SponsorReclaim, SponsorStart, SponsorStop, Assert, Debug}
+use Rattle.instr_table.specs.declared.op.Op.TheVariants.{Dup, Pick, Roll, Depth, Pair, Part, Nth, QuadMake, QuadTake, Get, Typeq, Cmp, AluNot, Alu, If, Jump, End, Assert}
 use Rattle.instr_table.specs.Types.{look_up}
-use Rattle.instr_table.specs.Lists.{items_to, pair_quad}
-use Rattle.instr_table.specs.Dictionary.{entries_to, dict_set, dict_del, entry_quad}
-use Rattle.instr_table.specs.Deque.{taking, deque_quad}
-use Rattle.instr_table.specs.Event.{Own, Made, Behaviour, Effects, no_effects, with_effect, Grants, Sponsors, Starts, Nothing}
-use Rattle.instr_table.specs.Sheet.{Amount, Account, Standing, Stopped, Running, holding, held, spend, transfer, account, short, sheet_after, reclaim, stop, start, prepared}
-use Rattle.instr_table.specs.Outcome.{Outcome, Going, Goes, Faults, Commits, Row, charge, not_actor, second_become, bad_instruction, assertion_failed, not_fresh, not_sponsor, short_of, was_stopped, is_running}
+use Rattle.instr_table.specs.Lists.{pair_quad}
+use Rattle.instr_table.specs.Event.{Own, no_effects, Nothing}
+use Rattle.instr_table.specs.Sheet.{Account, Running, holding}
+use Rattle.instr_table.specs.Outcome.{Outcome, Goes, Faults, Commits, Row, charge, bad_instruction, assertion_failed, was_stopped}
 use Rattle.instr_table.specs.Row.{row, row_at}
-use Rattle.instr_table.specs.Lane.{Item, Lane, begun, values, after_going, lane_row, gone}
-
 
 abbrev quad : W → W → W → W → Quad
 quad t x y z = record { t = t; x = x; y = y; z = z }

@@ -1,5 +1,5 @@
 -- Which words are read from words that an event has.
-use Rattle.std.proofs.Common.{◌≡◌, ℕ, zero, suc, ◌+◌, ◌-◌, ◌<◌, ℤ, pos, negsuc, Bool, true, false, List, [], ◌∷◌, ◌++◌, reverse, drop, get_or, Option, Some, None, refl, sym, subst, inl, inr, not, arith, if◌then◌else◌, nat_lt}
+use Rattle.std.proofs.Common.{◌≡◌, ℕ, zero, suc, ◌-◌, ◌<◌, ℤ, pos, negsuc, Bool, true, false, List, [], ◌∷◌, ◌++◌, reverse, drop, get_or, Option, Some, None, refl, sym, subst, inl, inr, not, arith, if◌then◌else◌, nat_lt}
 use Rattle.std.proofs.lemmas.Bool.Decides.{nat_tests}
 use Rattle.std.specs.Ordering.{int_eq}
 use Rattle.std.proofs.lemmas.Grind.{reverse_onto}
@@ -12,7 +12,7 @@ use Rattle.instr_table.specs.Lists.{item, top_items, rolled, pair_in, head_in, t
 use Rattle.instr_table.specs.Dictionary.{entry_in, entries_to, first_with, before, value_in}
 use Rattle.instr_table.specs.Deque.{ends_in, ends, Ends}
 use Rattle.instr_table.specs.Arithmetic.{order, compared, calculated, alu, on_numbers, complement}
-use Rattle.instr_table.specs.Reach.{Every, words_of, Reached, given, inside, IsPlain, Got, plain, reached}
+use Rattle.instr_table.specs.Reach.{Every, words_of, inside, IsPlain, Got, plain, reached}
 
 -- ---- lists
 

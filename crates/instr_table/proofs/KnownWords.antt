@@ -1,29 +1,28 @@
 -- An instruction hands on only words that the event knew, and those of cells, actors and sponsors that it makes.
-use Rattle.std.proofs.Common.{◌≡◌, ℕ, zero, suc, ◌+◌, ◌-◌, ◌<◌, ◌≤◌, ℤ, pos, negsuc, Bool, true, false, List, [], ◌∷◌, ◌++◌, length, reverse, Option, Some, None, refl, ap, inl, inr, arith, if◌then◌else◌, unsigned_abs, length-append, nat_lt, nat_le, ◌⊎◌, IsTrue}
+use Rattle.std.proofs.Common.{◌≡◌, ℕ, suc, ◌+◌, ◌≤◌, pos, Bool, true, false, List, [], ◌∷◌, ◌++◌, length, reverse, Option, Some, None, refl, ap, inl, inr, arith, if◌then◌else◌, unsigned_abs, length-append, nat_lt, nat_le, ◌⊎◌, IsTrue}
 use Rattle.std.specs.Ordering.{int_eq}
 use Rattle.cap_words.specs.declared.word.Quad.{Quad}
-use Rattle.cap_words.specs.Words.{W, Fix, Rom, Ram, Cap, same_word, number_of, undef, nil, truth, pair_t, dict_t, deque_t}
+use Rattle.cap_words.specs.Words.{W, Fix, Ram, Cap, same_word, undef, nil}
 use Rattle.cap_words.specs.Seen.{Seen, Slot, OpenSlot, UnbornSlot, SponsorSlot, SpentSlot, cell_seen}
-use Rattle.cap_words.specs.Frame.{Among}
 use Rattle.instr_table.specs.declared.charge.Quota.{Quota}
 use Rattle.instr_table.specs.declared.op.Op.{Op}
 use Rattle.instr_table.specs.declared.op.Op.TheVariants.{Push, Dup, Drop, Pick, Roll, Depth, Pair, Part, Nth, QuadMake, QuadTake, Get, Typeq, Eq, Cmp, AluNot, Alu, If, Jump, Msg, State, My, ActorSend, ActorPost, ActorCreate, ActorAssign, ActorBecome, End, DictTest, DictPut, DictDel, DequeNew, DequeTest, DequePut, DequeTake, SponsorNew, SponsorGrant, SponsorReclaim, SponsorStart, SponsorStop, Assert, Debug}
 use Rattle.instr_table.specs.Spelling.{spelling}
 use Rattle.instr_table.specs.Types.{is_actor, is_sponsor, is_makeable}
-use Rattle.instr_table.specs.Lists.{next_quad, item, top_items, rolled, linked, last_linked, chained, one_cell, Built, pair_quad, pair_in, items, longest}
+use Rattle.instr_table.specs.Lists.{next_quad, item, linked, last_linked, chained, one_cell, Built, pair_quad, pair_in, items, longest}
 use Rattle.instr_table.specs.Dictionary.{entries, first_with, before, copy, entry_quad, set_at, del_at, dict_set, dict_del, dict_added}
 use Rattle.instr_table.specs.Deque.{Ends, ends, deque_quad, deque_after, pushed_front, pushed_back, Taking, turned_on, turned, taken_from, taking}
 use Rattle.instr_table.specs.Arithmetic.{falsy}
 use Rattle.instr_table.specs.Event.{Own, Effects, Behaviour, Effect, Nothing, Grants, has_created}
 use Rattle.instr_table.specs.Sheet.{Account, runs}
-use Rattle.instr_table.specs.Outcome.{Outcome, Goes, Faults, Commits, Going, Row, does, goes, gives}
+use Rattle.instr_table.specs.Outcome.{Row, does, goes, gives}
 use Rattle.instr_table.specs.ActorRows.{become_row, message_to}
 use Rattle.instr_table.specs.SponsorRows.{grant_of, most_sponsors}
-use Rattle.instr_table.specs.Row.{row, row_at, item_of, quad_row, own_word, dict_tested, deque_tested, popped, pulled}
-use Rattle.instr_table.specs.Reach.{Every, words_of, Reached, given, Got, plain, reached, Known, got, new, made_now, is_made}
-use Rattle.instr_table.specs.Laws.{words_at, CellKnown, EffectKnown, KeepsTo, HandsOn}
+use Rattle.instr_table.specs.Row.{row, item_of, quad_row, popped, pulled}
+use Rattle.instr_table.specs.Reach.{Every, words_of, given, Got, plain, reached, Known, got, new, made_now, is_made}
+use Rattle.instr_table.specs.Laws.{words_at, CellKnown, EffectKnown, HandsOn}
 use Rattle.instr_table.proofs.Charges.{length-linked}
-use Rattle.instr_table.proofs.GotWords.{pair_is, every-append, every-reverse, every-map, every-of, got-undef, got-nil, got-truth, got-fix, got-either, got-words, words-read, got-field, got-fields, got-nth, got-parted, got-item, got-top_items, got-rolled, got-items, GotEntry, got-entries, got-first_with, got-value, got-before, got-ends, got-compared, got-alu, got-complement}
+use Rattle.instr_table.proofs.GotWords.{pair_is, every-append, every-reverse, every-map, every-of, got-undef, got-nil, got-truth, got-fix, got-either, words-read, got-field, got-fields, got-nth, got-parted, got-item, got-top_items, got-rolled, got-items, GotEntry, got-entries, got-first_with, got-value, got-before, got-ends, got-compared, got-alu, got-complement}
 
 -- ---- cells that are linked, among those that an instruction makes
 

@@ -8,3 +8,4 @@ pub mod Assignments
 pub mod GotWords
 pub mod KnownWords
 pub mod Authorities
+pub mod ShownWords

@@ -1,15 +1,14 @@
 -- Worked rows on dictionaries and deques.
-use Rattle.std.proofs.Common.{◌≡◌, ℕ, pos, List, [], ◌∷◌, ◌++◌, map, refl}
-use Rattle.cap_words.specs.declared.word.Quad.{Quad}
+use Rattle.std.proofs.Common.{◌≡◌, ℕ, pos, List, [], ◌∷◌, ◌++◌, refl}
 use Rattle.cap_words.specs.Words.{W, Fix, Rom, Ram, undef, nil}
 use Rattle.cap_words.specs.Seen.{Seen, OpenSlot, grown}
 use Rattle.instr_table.specs.declared.op.Op.{Op}
 use Rattle.instr_table.specs.declared.op.Op.TheVariants.{DictTest, DictPut, DictDel, DequeNew, DequeTest, DequePut, DequeTake}
 use Rattle.instr_table.specs.Lists.{items_to, pair_quad}
-use Rattle.instr_table.specs.Dictionary.{entries_to, entries, dict_set, dict_del, entry_quad}
+use Rattle.instr_table.specs.Dictionary.{entries_to, dict_set, dict_del, entry_quad}
 use Rattle.instr_table.specs.Deque.{taking, deque_quad}
-use Rattle.instr_table.specs.Event.{Own, no_effects, Nothing}
-use Rattle.instr_table.specs.Outcome.{Outcome, Going, Goes, Faults, Commits, Row}
+use Rattle.instr_table.specs.Event.{Own, no_effects}
+use Rattle.instr_table.specs.Outcome.{Outcome, Goes, Faults, Commits, Row}
 use Rattle.instr_table.specs.Row.{row}
 
 abbrev n : ℕ → W

@@ -1,12 +1,10 @@
 -- The quad that spells an operation spells it.
-use Rattle.std.proofs.Common.{◌≡◌, ℕ, suc, zero, ℤ, pos, negsuc, Bool, true, false, ◌&&◌, ◌||◌, IsTrue, Option, Some, None, option_map, if◌then◌else◌, refl, arith}
-use Rattle.std.specs.Ordering.{int_eq}
+use Rattle.std.proofs.Common.{◌≡◌, ℤ, pos, negsuc, Bool, true, false, IsTrue, Option, Some, None, option_map, if◌then◌else◌, refl, arith}
 use Rattle.std.proofs.lemmas.Bool.Decides.{nat_tests}
 use Rattle.cap_words.specs.Words.{W}
-use Rattle.cap_words.proofs.Same.{word_is}
 use Rattle.instr_table.specs.declared.op.Op.{Op}
 use Rattle.instr_table.specs.declared.op.Op.TheVariants.{Push, Dup, Drop, Pick, Roll, Depth, Pair, Part, Nth, QuadMake, QuadTake, Get, Typeq, Eq, Cmp, AluNot, Alu, If, Jump, Msg, State, My, ActorSend, ActorPost, ActorCreate, ActorAssign, ActorBecome, End, DictTest, DictPut, DictDel, DequeNew, DequeTest, DequePut, DequeTake, SponsorNew, SponsorGrant, SponsorReclaim, SponsorStart, SponsorStop, Assert, Debug}
-use Rattle.instr_table.specs.Code.{operation, numbered, passing, within, turns, either, quad_operation, alu_operation, dict_operation, deque_operation, sponsor_operation}
+use Rattle.instr_table.specs.Code.{operation, numbered, within, turns, either, quad_operation, alu_operation, dict_operation, deque_operation, sponsor_operation}
 use Rattle.instr_table.specs.Spelling.{is_op, spelled}
 
 passes : (test : ℤ → Bool) (op : ℤ → Op) (n : ℤ) → IsTrue (test n) → numbered test op (Some n) ≡ Some (op n)

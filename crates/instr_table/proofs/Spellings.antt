@@ -1,10 +1,10 @@
 -- A quad that spells an operation is the one quad that spells it with that next word.
-use Rattle.std.proofs.Common.{◌≡◌, ℕ, ℤ, pos, negsuc, Bool, true, false, ◌||◌, IsTrue, Option, Some, None, option_map, if◌then◌else◌, refl, sym, subst, ap, nat_eq, ◌∙◌, IfSome}
+use Rattle.std.proofs.Common.{◌≡◌, ℕ, ℤ, pos, negsuc, Bool, true, false, IsTrue, Option, Some, None, option_map, if◌then◌else◌, refl, sym, subst, ap, nat_eq, ◌∙◌, IfSome}
 use Rattle.std.specs.Ordering.{int_eq}
 use Rattle.std.proofs.lemmas.Bool.Decides.{Decides-eqb, Decides-int_eq}
 use Rattle.cap_words.specs.declared.word.Quad.{Quad}
 use Rattle.cap_words.specs.Words.{W, Fix, Rom, Ram, Cap, same_word, number_of, undef, instr_t}
-use Rattle.cap_words.proofs.Same.{word_same, is_fix}
+use Rattle.cap_words.proofs.Same.{word_same}
 use Rattle.instr_table.specs.declared.op.Op.{Op}
 use Rattle.instr_table.specs.declared.op.Op.TheVariants.{Push, Dup, Drop, Pick, Roll, Depth, Pair, Part, Nth, QuadMake, QuadTake, Get, Typeq, Eq, Cmp, AluNot, Alu, If, Jump, Msg, State, My, ActorSend, ActorPost, ActorCreate, ActorAssign, ActorBecome, End, DictTest, DictPut, DictDel, DequeNew, DequeTest, DequePut, DequeTake, SponsorNew, SponsorGrant, SponsorReclaim, SponsorStart, SponsorStop, Assert, Debug}
 use Rattle.instr_table.specs.Code.{operation, by_number, named, numbered, bare, within, turns, either, quad_operation, alu_operation, actor_operation, dict_operation, deque_operation, sponsor_operation}

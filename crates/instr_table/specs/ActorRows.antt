@@ -1,10 +1,10 @@
 -- The rows of the operations on actors, which act on the event's record alone.
-use Rattle.std.specs.Prelude.{ℕ, if◌then◌else◌, Bool, List, [], ◌∷◌, Option, Some, None}
+use Rattle.std.specs.Prelude.{ℕ, if◌then◌else◌, List, [], ◌∷◌, Option, Some, None}
 use Rattle.cap_words.specs.Words.{W, Cap}
 use Rattle.cap_words.specs.Seen.{Seen, UnbornSlot, EventSlot}
 use Rattle.instr_table.specs.Types.{is_actor, is_sponsor}
 use Rattle.instr_table.specs.Lists.{next_quad, item}
-use Rattle.instr_table.specs.Event.{Behaviour, Effects, Effect, Sends, Creates, Assigns, Becomes, has_created}
+use Rattle.instr_table.specs.Event.{Behaviour, Effects, Sends, Creates, Assigns, Becomes, has_created}
 use Rattle.instr_table.specs.Outcome.{Row, does, faults, not_actor, second_become, not_fresh, not_sponsor}
 
 -- a message under a sponsor

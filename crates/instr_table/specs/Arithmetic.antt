@@ -1,5 +1,5 @@
 -- Comparison and arithmetic on words.
-use Rattle.std.specs.Prelude.{ℕ, ◌-◌, ◌^◌, nat_lt, nat_eq, if◌then◌else◌, ℤ, pos, negsuc, ◌+ℤ◌, ◌-ℤ◌, ◌*ℤ◌, int_lt, int_le, bit_and, bit_or, bit_xor, Bool, true, false, not}
+use Rattle.std.specs.Prelude.{ℕ, ◌-◌, ◌^◌, nat_lt, if◌then◌else◌, ℤ, pos, negsuc, ◌+ℤ◌, ◌-ℤ◌, ◌*ℤ◌, int_lt, int_le, bit_and, bit_or, bit_xor, Bool, false, not}
 use Rattle.std.specs.Ordering.{int_eq}
 use Rattle.cap_words.specs.Words.{W, Fix, Rom, Ram, Cap, same_word, undef, truth}
 use Rattle.cap_words.specs.Fixnums.{wrap}
@@ -39,6 +39,7 @@ low_bits (negsuc n) = 2 ^ 31 - 1 - n
 abbrev pub of_low_bits : ℕ → ℤ
 of_low_bits b = if nat_lt b (2 ^ 30) then pos b else negsuc (2 ^ 31 - 1 - b)
 
+-- a calculation on the bits of two numbers
 abbrev pub bitwise : (ℕ → ℕ → ℕ) → ℤ → ℤ → ℤ
 bitwise f n m = of_low_bits (f (low_bits n) (low_bits m))
 

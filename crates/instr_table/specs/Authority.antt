@@ -12,6 +12,7 @@ use Rattle.instr_table.specs.Reach.{Every, words_of, Reach, is_made}
 
 -- ---- the words of an event in flight
 
+-- the words of created actors, their states and their codes
 abbrev pub created_words : List Made → List W
 created_words [] = []
 created_words (m ∷ ms) = m.actor ∷ m.state ∷ m.code ∷ created_words ms
@@ -20,14 +21,17 @@ created_words (m ∷ ms) = m.actor ∷ m.state ∷ m.code ∷ created_words ms
 abbrev pub sponsor_words : W → W → List W
 sponsor_words payer w = if same_word w payer then [] else w ∷ []
 
+-- the targets and contents of sent messages
 abbrev pub sent_words : W → List Sent → List W
 sent_words payer [] = []
 sent_words payer (m ∷ ms) = m.target ∷ m.content ∷ sponsor_words payer m.sponsor ++ sent_words payer ms
 
+-- the state and code of a gathered behaviour
 abbrev pub behaviour_words : Option Behaviour → List W
 behaviour_words None = []
 behaviour_words (Some b) = b.state ∷ b.code ∷ []
 
+-- the words of a record
 abbrev pub effects_words : W → Effects → List W
 effects_words payer e = created_words e.created ++ (sent_words payer e.sent ++ behaviour_words e.next)
 
@@ -44,6 +48,7 @@ IsTaken n (Rom k) = Unit {0}
 IsTaken n (Ram k) = k < n
 IsTaken n (Cap k) = k < n
 
+-- each RAM word that a quad shows names one of the first n quads
 abbrev pub SlotTaken : ℕ → Slot → Type 0
 SlotTaken n (OpenSlot q) = Every (IsTaken n) (words_of q)
 SlotTaken n (ActorSlot code state mark) = IsTaken n code × IsTaken n state
@@ -56,6 +61,7 @@ SlotTaken n SpentSlot = Unit {0}
 abbrev pub ImageCell : Quad → Type 0
 ImageCell q = Every (IsTaken 0) (words_of q)
 
+-- so does an item, and the cell that it stands in
 abbrev pub ItemTaken : ℕ → Item → Type 0
 ItemTaken n i = IsTaken n i.value × IsTaken n i.at
 
@@ -77,5 +83,6 @@ IsMadeBy s g w = (i : ℕ) × (w ≡ Cap (next_quad s + i)) × IsTrue (is_made (
 abbrev pub KeepsAuthority : Seen → List Account → Lane → Type 0
 KeepsAuthority s sheet l = (g : Going) → (lane_row s sheet l).outcome ≡ Goes g → AllTaken s l → AllTaken (after_going s l.stack g).0 (gone s l g) × ((w : W) → Reach (after_going s l.stack g).0 (lane_words (gone s l g)) w → Reach s (lane_words l) w ⊎ IsMadeBy s g w)
 
+-- for every store, sheet and event in flight
 abbrev pub EachKeepsAuthority : Type 0
 EachKeepsAuthority = (s : Seen) (sheet : List Account) (l : Lane) → KeepsAuthority s sheet l

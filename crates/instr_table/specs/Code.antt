@@ -1,8 +1,8 @@
 -- Which quads spell which operations.
-use Rattle.std.specs.Prelude.{ℕ, nat_eq, nat_le, if◌then◌else◌, ℤ, pos, negsuc, int_le, unsigned_abs, Bool, true, ◌&&◌, ◌||◌, Option, Some, None, option_map}
+use Rattle.std.specs.Prelude.{ℕ, nat_eq, nat_le, if◌then◌else◌, ℤ, pos, negsuc, int_le, unsigned_abs, Bool, ◌&&◌, ◌||◌, Option, Some, None, option_map}
 use Rattle.std.specs.Ordering.{int_eq}
 use Rattle.cap_words.specs.declared.word.Quad.{Quad}
-use Rattle.cap_words.specs.Words.{W, Fix, same_word, number_of, undef, instr_t}
+use Rattle.cap_words.specs.Words.{W, same_word, number_of, undef, instr_t}
 use Rattle.cap_words.specs.Seen.{Seen, cell_seen}
 use Rattle.instr_table.specs.declared.op.Op.{Op}
 use Rattle.instr_table.specs.declared.op.Op.TheVariants.{Push, Dup, Drop, Pick, Roll, Depth, Pair, Part, Nth, QuadMake, QuadTake, Get, Typeq, Eq, Cmp, AluNot, Alu, If, Jump, Msg, State, My, ActorSend, ActorPost, ActorCreate, ActorAssign, ActorBecome, End, DictTest, DictPut, DictDel, DequeNew, DequeTest, DequePut, DequeTake, SponsorNew, SponsorGrant, SponsorReclaim, SponsorStart, SponsorStop, Assert, Debug}
@@ -35,12 +35,14 @@ quad_operation (Some n) =
     if within (pos 1) (pos 4) n then Some (QuadMake n) else
     if within (negsuc 3) (negsuc 0) n then Some (QuadTake n) else None
 
+-- 0 is `not`, 1 to 6 take two numbers
 abbrev pub alu_operation : Option ℤ → Option Op
 alu_operation None = None
 alu_operation (Some n) =
     if int_eq n (pos 0) then Some AluNot else
     if within (pos 1) (pos 6) n then Some (Alu n) else None
 
+-- send, post, create, assign, become
 abbrev pub actor_operation : Option ℤ → Option Op
 actor_operation None = None
 actor_operation (Some n) =
@@ -50,6 +52,7 @@ actor_operation (Some n) =
     if int_eq n (pos 3) then Some ActorAssign else
     if int_eq n (pos 4) then Some ActorBecome else None
 
+-- 0 and 1 ask, 2 and 3 put, 4 removes
 abbrev pub dict_operation : Option ℤ → Option Op
 dict_operation None = None
 dict_operation (Some n) =
@@ -61,6 +64,7 @@ dict_operation (Some n) =
 abbrev pub either : ℤ → ℤ → ℤ → Bool
 either a b n = int_eq n a || int_eq n b
 
+-- new, and then what is asked, put and taken
 abbrev pub deque_operation : Option ℤ → Option Op
 deque_operation None = None
 deque_operation (Some n) =
@@ -69,6 +73,7 @@ deque_operation (Some n) =
     if either (pos 2) (pos 4) n then Some (DequePut n) else
     if either (pos 3) (pos 5) n then Some (DequeTake n) else None
 
+-- new, three kinds of grants, reclaim, start, stop
 abbrev pub sponsor_operation : Option ℤ → Option Op
 sponsor_operation None = None
 sponsor_operation (Some n) =
@@ -109,6 +114,7 @@ named k v =
     if nat_eq k 25 then Some (Assert v) else
     if nat_eq k 26 then bare Debug v else None
 
+-- operations have numbers from 0 on
 abbrev pub by_number : Option ℤ → W → Option Op
 by_number None v = None
 by_number (Some (pos k)) v = named k v
@@ -123,6 +129,7 @@ abbrev pub with_next : Option Op → W → Option (Op × W)
 with_next None k = None
 with_next (Some op) k = Some (op, k)
 
+-- a code word that names no cell has no operation
 abbrev pub fetched_in : Option Quad → Option (Op × W)
 fetched_in None = None
 fetched_in (Some q) = with_next (operation q) q.z

@@ -1,10 +1,12 @@
 -- Dictionaries: lists of entries, of which the first one with a key counts.
-use Rattle.std.specs.Prelude.{ℕ, zero, suc, if◌then◌else◌, Bool, List, [], ◌∷◌, reverse, Option, Some, None}
+use Rattle.std.specs.Prelude.{ℕ, zero, suc, if◌then◌else◌, ℤ, pos, List, [], ◌∷◌, reverse, Option, Some, None}
+use Rattle.std.specs.Ordering.{int_eq}
 use Rattle.cap_words.specs.declared.word.Quad.{Quad}
 use Rattle.cap_words.specs.Words.{W, same_word, undef, dict_t}
 use Rattle.cap_words.specs.Seen.{Seen, cell_seen}
 use Rattle.instr_table.specs.Lists.{Built, chained, one_cell, longest}
 
+-- the words of an entry's cell
 abbrev pub entry_quad : W → W → W → Quad
 entry_quad key value next = record { t = dict_t; x = key; y = value; z = next }
 
@@ -53,13 +55,19 @@ abbrev pub set_at : Option Quad → ℕ → List Quad → W → W → W → Buil
 set_at None n es w key value = dict_added n w key value
 set_at (Some e) n es w key value = chained copy n (entry_quad key value undef ∷ reverse (before key es)) e.z
 
+-- `set` on a dictionary; its cells are taken from n on
 unfoldable pub dict_set : Seen → ℕ → W → W → W → Built
 dict_set s n w key value = set_at (first_with key (entries s w)) n (entries s w) w key value
+
+-- `add`, or `set`, by its number
+abbrev pub dict_put : ℤ → Seen → ℕ → W → W → W → Built
+dict_put k s n w key value = if int_eq k (pos 3) then dict_set s n w key value else dict_added n w key value
 
 -- the first entry with the key left out, and those before it copied; or the dictionary as it stands
 abbrev pub del_at : Option Quad → ℕ → List Quad → W → W → Built
 del_at None n es w key = record { cells = []; word = w }
 del_at (Some e) n es w key = chained copy n (reverse (before key es)) e.z
 
+-- `del` on a dictionary; its cells are taken from n on
 unfoldable pub dict_del : Seen → ℕ → W → W → Built
 dict_del s n w key = del_at (first_with key (entries s w)) n (entries s w) w key

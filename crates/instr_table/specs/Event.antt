@@ -35,6 +35,7 @@ pub record Effects : Type 0 where
   pub sent : List Sent
   pub next : Option Behaviour
 
+-- the record of an event at its dispatch
 abbrev pub no_effects : Effects
 no_effects = record { created = []; sent = []; next = None }
 

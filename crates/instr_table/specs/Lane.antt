@@ -26,6 +26,7 @@ pub record Lane : Type 0 where
 abbrev pub begun : ℕ → Own → Lane
 begun number own = record { number = number; own = own; code = own.code; stack = []; effects = no_effects }
 
+-- the plain stack
 abbrev pub values : List Item → List W
 values is = map (λ (i : Item). i.value) is
 
@@ -38,6 +39,7 @@ top_at (i ∷ is) = i.at
 abbrev pub push_one : Seen × List Item → W → Seen × List Item
 push_one p v = (grown p.0 (OpenSlot (pair_quad v (top_at p.1)) ∷ []), record { value = v; at = Ram (next_quad p.0) } ∷ p.1)
 
+-- values are pushed, the first one first
 abbrev pub push_all : Seen × List Item → List W → Seen × List Item
 push_all p [] = p
 push_all p (v ∷ vs) = push_all (push_one p v) vs

@@ -1,15 +1,17 @@
 -- What is so of every row of the table.
-use Rattle.std.specs.Prelude.{◌≡◌, ℕ, ◌+◌, ◌≤◌, ◌⊎◌, true, List, [], ◌∷◌, ◌++◌, length, IsTrue, Option, Some, None, IfSome}
+use Rattle.std.specs.Prelude.{◌≡◌, ℕ, ◌+◌, ◌≤◌, ◌⊎◌, true, List, [], ◌∷◌, length, IsTrue, Option, Some, IfSome, slice_get}
 use Rattle.cap_words.specs.Words.{W, Cap}
-use Rattle.cap_words.specs.Seen.{Seen, Slot, OpenSlot, ActorSlot, UnbornSlot, EventSlot, SponsorSlot, SpentSlot}
+use Rattle.cap_words.specs.Seen.{Seen, Slot, OpenSlot, ActorSlot, UnbornSlot, EventSlot, SponsorSlot, SpentSlot, open_in, altered}
 use Rattle.instr_table.specs.declared.charge.Charge.{Charge}
 use Rattle.instr_table.specs.declared.op.Op.{Op}
+use Rattle.instr_table.specs.Types.{opaque_in, Grows}
 use Rattle.instr_table.specs.Lists.{next_quad}
 use Rattle.instr_table.specs.Spelling.{is_op, charge_of, spelling}
 use Rattle.instr_table.specs.Event.{Own, Effects, Effect, Nothing, Sends, Creates, Assigns, Becomes, Sponsors, Grants, Reclaims, Starts, Stops, has_created}
 use Rattle.instr_table.specs.Sheet.{Account}
 use Rattle.instr_table.specs.Outcome.{Going, Outcome, Goes, Faults, Commits, Row, events_in}
 use Rattle.instr_table.specs.Row.{row, row_at}
+use Rattle.instr_table.specs.Lane.{Item, after_going}
 use Rattle.instr_table.specs.Reach.{Every, words_of, Known}
 
 -- the charge is the one of the table's column, where that has one
@@ -22,6 +24,7 @@ Covers c (Goes g) = (length g.made + length g.pushed ≤ c.quads) × (events_in 
 Covers c (Faults w) = Unit {0}
 Covers c Commits = Unit {0}
 
+-- where an effect assigns, it is to an actor of this record
 abbrev pub OwnIn : Effects → Effect → Type 0
 OwnIn e Nothing = Unit {0}
 OwnIn e (Sends m) = Unit {0}
@@ -44,11 +47,26 @@ AssignsOwn e Commits = Unit {0}
 abbrev pub ChargesAsListed : Type 0
 ChargesAsListed = (own : Own) (op : Op) (s : Seen) (sheet : List Account) (e : Effects) (vs : List W) (k : W) → IsTrue (is_op op) → IsCharged op (row own op s sheet e vs k)
 
+-- for every row, that of a bad instruction included
 abbrev pub TakesWhatItCharges : Type 0
 TakesWhatItCharges = (own : Own) (o : Option (Op × W)) (s : Seen) (sheet : List Account) (e : Effects) (vs : List W) → Covers (row_at own o s sheet e vs).charge (row_at own o s sheet e vs).outcome
 
+-- for every row
 abbrev pub AssignsToOwn : Type 0
 AssignsToOwn = (own : Own) (o : Option (Op × W)) (s : Seen) (sheet : List Account) (e : Effects) (vs : List W) → AssignsOwn e (row_at own o s sheet e vs).outcome
+
+-- ---- what a store shows
+
+-- what a word shows it shows after each instruction, and after a quad was changed whose words and kind are still shown
+abbrev pub ShownStays : Type 0
+ShownStays = (s : Seen) (is : List Item) (g : Going) → Grows s (after_going s is g).0
+
+-- a quad's words, where it is readable, and else its kind are as before
+abbrev pub ShowsTheSame : Slot → Slot → Type 0
+ShowsTheSame a b = (open_in (Some b) ≡ open_in (Some a)) × (opaque_in (Some b) ≡ opaque_in (Some a))
+
+abbrev pub ChangesKeepShown : Type 0
+ChangesKeepShown = (s : Seen) (n : ℕ) (a b : Slot) → slice_get s.slots n ≡ Some a → ShowsTheSame a b → Grows s (altered s n b)
 
 -- ---- which words an instruction hands on
 
@@ -91,6 +109,7 @@ pub record KeepsTo (s : Seen) (ws : List W) (payer : W) (g : Going) : Type 0 whe
   pub cells : Every (CellKnown s g.made ws payer) g.made
   pub effect : EffectKnown s g.made ws payer g.effect
 
+-- what a row hands on; a fault hands on its reason
 abbrev pub HandsOn : Seen → List W → W → Outcome → Type 0
 HandsOn s ws payer (Goes g) = KeepsTo s ws payer g
 HandsOn s ws payer (Faults w) = Known s [] ws w

@@ -1,5 +1,5 @@
 -- Stacks as plain lists, and lists of linked cells.
-use Rattle.std.specs.Prelude.{ℕ, zero, suc, ◌-◌, if◌then◌else◌, ℤ, pos, negsuc, unsigned_abs, List, [], ◌∷◌, ◌++◌, length, reverse, drop, Option, Some, None, get_or}
+use Rattle.std.specs.Prelude.{ℕ, zero, suc, ◌-◌, if◌then◌else◌, ℤ, pos, negsuc, List, [], ◌∷◌, ◌++◌, length, drop, Option, Some, None, get_or}
 use Rattle.cap_words.specs.declared.word.Quad.{Quad}
 use Rattle.cap_words.specs.Words.{W, Ram, same_word, undef, pair_t}
 use Rattle.cap_words.specs.Seen.{Seen, Slot, OpenSlot, cell_seen}
@@ -42,6 +42,7 @@ abbrev pub last_linked : {A : Type 0} → ℕ → List A → W → W
 last_linked n [] tail = tail
 last_linked n (x ∷ xs) tail = last_linked (suc n) xs (Ram n)
 
+-- such cells, as a result
 abbrev pub chained : {A : Type 0} → (A → W → Quad) → ℕ → List A → W → Built
 chained cell_for n xs tail = record { cells = linked cell_for n xs tail; word = last_linked n xs tail }
 
@@ -51,6 +52,7 @@ one_cell n q = record { cells = OpenSlot q ∷ []; word = Ram n }
 
 -- ---- pairs
 
+-- the words of a pair's cell
 abbrev pub pair_quad : W → W → Quad
 pair_quad head tail = record { t = pair_t; x = head; y = tail; z = undef }
 

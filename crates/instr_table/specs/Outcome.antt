@@ -15,15 +15,18 @@ pub record Going : Type 0 where
   pub goes_to : W
   pub effect : Effect
 
+-- an event goes on, faults with a reason, or commits
 pub data Outcome : Type 0 where
   Goes : Going → Outcome
   Faults : W → Outcome
   Commits : Outcome
 
+-- what an instruction costs beside its cycle, and what it comes to
 pub record Row : Type 0 where
   pub charge : Charge
   pub outcome : Outcome
 
+-- so many quads and events
 abbrev pub charge : ℕ → ℕ → Charge
 charge quads events = record { quads = quads; events = events }
 

@@ -1,5 +1,5 @@
 -- What a program can get at from some words, and which words an instruction may come by.
-use Rattle.std.specs.Prelude.{◌≡◌, ℕ, ◌+◌, ◌<◌, ◌≤◌, Bool, true, false, IsTrue, ◌⊎◌, List, [], ◌∷◌, ◌++◌, length, Option, Some, None, slice_get}
+use Rattle.std.specs.Prelude.{◌≡◌, ℕ, ◌+◌, ◌<◌, ◌≤◌, Bool, true, false, IsTrue, List, [], ◌∷◌, length, Option, Some, None, slice_get}
 use Rattle.cap_words.specs.declared.word.Quad.{Quad}
 use Rattle.cap_words.specs.Words.{W, Fix, Rom, Ram, Cap}
 use Rattle.cap_words.specs.Seen.{Seen, Slot, OpenSlot, ActorSlot, UnbornSlot, EventSlot, SponsorSlot, SpentSlot, cell_seen}
@@ -20,6 +20,7 @@ pub data Reached (s : Seen) (ws : List W) : W → Type 0 where
   given : {w : W} → Among w ws → Reached s ws w
   inside : {v w : W} {q : Quad} → Reached s ws w → cell_seen s w ≡ Some q → Among v (words_of q) → Reached s ws v
 
+-- the word of an actor, a sponsor or an event
 abbrev pub IsOpaque : W → Type 0
 IsOpaque (Fix n) = ⊥
 IsOpaque (Rom n) = ⊥

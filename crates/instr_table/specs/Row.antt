@@ -1,5 +1,5 @@
 -- The instruction table: one case for each operation.
-use Rattle.std.specs.Prelude.{ℕ, zero, suc, ◌+◌, nat_le, if◌then◌else◌, ℤ, pos, negsuc, unsigned_abs, Bool, List, [], ◌∷◌, length, reverse, Option, Some, None, is_some}
+use Rattle.std.specs.Prelude.{ℕ, suc, nat_le, if◌then◌else◌, ℤ, pos, unsigned_abs, List, [], ◌∷◌, length, reverse, Option, Some, None, is_some}
 use Rattle.std.specs.Ordering.{int_eq}
 use Rattle.cap_words.specs.declared.word.Quad.{Quad}
 use Rattle.cap_words.specs.Words.{W, Fix, same_word, undef, nil, truth}
@@ -8,14 +8,18 @@ use Rattle.instr_table.specs.declared.op.Op.{Op}
 use Rattle.instr_table.specs.declared.op.Op.TheVariants.{Push, Dup, Drop, Pick, Roll, Depth, Pair, Part, Nth, QuadMake, QuadTake, Get, Typeq, Eq, Cmp, AluNot, Alu, If, Jump, Msg, State, My, ActorSend, ActorPost, ActorCreate, ActorAssign, ActorBecome, End, DictTest, DictPut, DictDel, DequeNew, DequeTest, DequePut, DequeTake, SponsorNew, SponsorGrant, SponsorReclaim, SponsorStart, SponsorStop, Assert, Debug}
 use Rattle.instr_table.specs.Types.{type_of, is_type, is_makeable}
 use Rattle.instr_table.specs.Lists.{next_quad, item, top_items, rolled, Built, chained, one_cell, pair_quad, nth, parted, field_in, fields_in}
-use Rattle.instr_table.specs.Dictionary.{entries, first_with, value_in, dict_added, dict_set, dict_del}
-use Rattle.instr_table.specs.Deque.{ends, deque_quad, is_empty, deque_len, deque_after, pushed_front, pushed_back, Taking, taking}
+use Rattle.instr_table.specs.Dictionary.{entries, first_with, value_in, dict_put, dict_del}
+use Rattle.instr_table.specs.Deque.{Ends, ends, deque_quad, is_empty, deque_len, deque_after, deque_put, Taking, taking}
 use Rattle.instr_table.specs.Arithmetic.{falsy, compared, alu, complement}
 use Rattle.instr_table.specs.Event.{Own, Effects, Nothing}
 use Rattle.instr_table.specs.Sheet.{Account}
-use Rattle.instr_table.specs.Outcome.{Goes, Faults, Commits, Row, charge, does, goes, gives, ends_with, faults, bad_instruction, assertion_failed, was_stopped}
+use Rattle.instr_table.specs.Outcome.{Commits, Row, charge, does, goes, gives, ends_with, faults, bad_instruction, assertion_failed, was_stopped}
 use Rattle.instr_table.specs.ActorRows.{send_row, post_row, create_row, assign_row, become_row}
 use Rattle.instr_table.specs.SponsorRows.{new_row, kind_of_grant, grant_row, reclaim_row, start_row, stop_row}
+
+-- the list of the top n items, with the one below them as its tail
+abbrev pub listed : ℕ → Seen → List W → Built
+listed n s vs = chained pair_quad (next_quad s) (reverse (top_items n vs)) (item vs (suc n))
 
 -- the k-th item where it is one of the first n, and else `#?`
 abbrev pub item_of : ℕ → List W → ℕ → W
@@ -48,6 +52,13 @@ popped n t k = let b : Built = deque_after n t.cells t.near t.far in does 1 b.ce
 abbrev pub pulled : ℕ → Taking → W → Row
 pulled n t k = let b : Built = deque_after n t.cells t.far t.near in does 1 b.cells (b.word ∷ t.value ∷ []) k Nothing
 
+-- `pop`, or `pull`, by its number
+abbrev pub take_row : ℤ → Seen → Ends → W → Row
+take_row n s d k =
+    if int_eq n (pos 3)
+    then popped (next_quad s) (taking s (next_quad s) d.front d.back) k
+    else pulled (next_quad s) (taking s (next_quad s) d.back d.front) k
+
 -- abort fails with the item on top, stop with its own reason
 abbrev pub end_row : ℤ → List W → Row
 end_row n vs =
@@ -63,7 +74,7 @@ row own (Drop n) s sheet e vs k = goes (unsigned_abs n) [] k
 row own (Pick n) s sheet e vs k = goes 0 (item vs (unsigned_abs n) ∷ []) k
 row own (Roll n) s sheet e vs k = goes (unsigned_abs n) (reverse (rolled n vs)) k
 row own Depth s sheet e vs k = goes 0 (Fix (pos (length vs)) ∷ []) k
-row own (Pair n) s sheet e vs k = gives (suc (unsigned_abs n)) (chained pair_quad (next_quad s) (reverse (top_items (unsigned_abs n) vs)) (item vs (suc (unsigned_abs n)))) k
+row own (Pair n) s sheet e vs k = gives (suc (unsigned_abs n)) (listed (unsigned_abs n) s vs) k
 row own (Part n) s sheet e vs k = goes 1 (parted s (unsigned_abs n) (item vs 1)) k
 row own (Nth n) s sheet e vs k = goes 1 (nth s n (item vs 1) ∷ []) k
 row own (QuadMake n) s sheet e vs k = quad_row (unsigned_abs n) s vs k
@@ -86,12 +97,12 @@ row own ActorAssign s sheet e vs k = assign_row e vs k
 row own ActorBecome s sheet e vs k = become_row e.next vs k
 row own (End n) s sheet e vs k = end_row n vs
 row own (DictTest n) s sheet e vs k = goes 2 (dict_tested n (first_with (item vs 1) (entries s (item vs 2))) ∷ []) k
-row own (DictPut n) s sheet e vs k = gives 3 (if int_eq n (pos 3) then dict_set s (next_quad s) (item vs 3) (item vs 2) (item vs 1) else dict_added (next_quad s) (item vs 3) (item vs 2) (item vs 1)) k
+row own (DictPut n) s sheet e vs k = gives 3 (dict_put n s (next_quad s) (item vs 3) (item vs 2) (item vs 1)) k
 row own DictDel s sheet e vs k = gives 2 (dict_del s (next_quad s) (item vs 2) (item vs 1)) k
 row own DequeNew s sheet e vs k = gives 0 (one_cell (next_quad s) (deque_quad nil nil)) k
 row own (DequeTest n) s sheet e vs k = goes 1 (deque_tested n s (item vs 1) ∷ []) k
-row own (DequePut n) s sheet e vs k = gives 2 (if int_eq n (pos 2) then pushed_front (next_quad s) (ends s (item vs 2)) (item vs 1) else pushed_back (next_quad s) (ends s (item vs 2)) (item vs 1)) k
-row own (DequeTake n) s sheet e vs k = if int_eq n (pos 3) then popped (next_quad s) (taking s (next_quad s) (ends s (item vs 1)).front (ends s (item vs 1)).back) k else pulled (next_quad s) (taking s (next_quad s) (ends s (item vs 1)).back (ends s (item vs 1)).front) k
+row own (DequePut n) s sheet e vs k = gives 2 (deque_put n (next_quad s) (ends s (item vs 2)) (item vs 1)) k
+row own (DequeTake n) s sheet e vs k = take_row n s (ends s (item vs 1)) k
 row own SponsorNew s sheet e vs k = new_row s sheet k
 row own (SponsorGrant n) s sheet e vs k = grant_row (kind_of_grant n) own.sponsor s sheet vs k
 row own SponsorReclaim s sheet e vs k = reclaim_row s vs k

@@ -1,6 +1,6 @@
 -- The sheet: what each sponsor received, passed on, spent and holds of each kind, and whether it runs.
 use Rattle.std.specs.Prelude.{◌≡◌, ℕ, ◌+◌, ◌-◌, nat_lt, if◌then◌else◌, Bool, true, false, List, [], ◌∷◌, ◌++◌, Option, Some, None}
-use Rattle.cap_words.specs.Words.{W, same_word, undef}
+use Rattle.cap_words.specs.Words.{W, same_word}
 use Rattle.instr_table.specs.declared.charge.Charge.{Charge}
 use Rattle.instr_table.specs.declared.charge.Quota.{Quota}
 use Rattle.instr_table.specs.declared.charge.Quota.TheVariants.{Memory, Events, Cycles}
@@ -18,6 +18,7 @@ pub data Standing : Type 0 where
   Stopped : Standing
   Running : Option W → Standing
 
+-- a sponsor, what it has of each kind, and whether it runs
 pub record Account : Type 0 where
   pub sponsor : W
   pub memory : Amount
@@ -29,9 +30,11 @@ pub record Account : Type 0 where
 abbrev pub Balances : Amount → Type 0
 Balances a = a.received ≡ a.passed + a.spent + a.held
 
+-- what has been received and not used
 abbrev pub holding : ℕ → Amount
 holding n = record { received = n; passed = 0; spent = 0; held = n }
 
+-- the account of a sponsor that has received nothing
 abbrev pub no_account : W → Account
 no_account w = record { sponsor = w; memory = holding 0; events = holding 0; cycles = holding 0; standing = Stopped }
 
@@ -57,11 +60,13 @@ at_amount Memory change a = record a { memory = change a.memory }
 at_amount Events change a = record a { events = change a.events }
 at_amount Cycles change a = record a { cycles = change a.cycles }
 
+-- what a sponsor holds of one kind
 abbrev pub held : List Account → W → Quota → ℕ
 held rows w kind = (amount kind (account rows w)).held
 
 -- ---- paying
 
+-- n is spent
 abbrev pub pays : ℕ → Amount → Amount
 pays n a = record a { spent = a.spent + n; held = a.held - n }
 
@@ -69,6 +74,7 @@ pays n a = record a { spent = a.spent + n; held = a.held - n }
 abbrev pub paid : Charge → Account → Account
 paid c a = record a { memory = pays c.quads a.memory; events = pays c.events a.events; cycles = pays 1 a.cycles }
 
+-- a sponsor pays for an instruction of that charge
 abbrev pub spend : List Account → W → Charge → List Account
 spend rows w c = at_account w (paid c) rows
 
@@ -81,9 +87,11 @@ short a c =
 
 -- ---- passing on
 
+-- n goes to another sponsor
 abbrev pub passes : ℕ → Amount → Amount
 passes n a = record a { passed = a.passed + n; held = a.held - n }
 
+-- n comes from another sponsor
 abbrev pub receives : ℕ → Amount → Amount
 receives n a = record a { received = a.received + n; held = a.held + n }
 
@@ -100,13 +108,16 @@ reclaim rows from to =
 
 -- ---- running
 
+-- whether a sponsor that stands so runs
 abbrev pub runs_in : Standing → Bool
 runs_in Stopped = false
 runs_in (Running signal) = true
 
+-- whether a sponsor runs
 abbrev pub runs : List Account → W → Bool
 runs rows w = runs_in (account rows w).standing
 
+-- the account of a sponsor that stands so from now on
 abbrev pub stands_as : Standing → Account → Account
 stands_as standing a = record a { standing = standing }
 
@@ -114,6 +125,7 @@ stands_as standing a = record a { standing = standing }
 abbrev pub with_sponsor : List Account → W → List Account
 with_sponsor rows w = rows ++ no_account w ∷ []
 
+-- it runs, and has prepared that signal
 abbrev pub start : List Account → W → W → List Account
 start rows w signal = at_account w (stands_as (Running (Some signal))) rows
 
@@ -121,6 +133,7 @@ start rows w signal = at_account w (stands_as (Running (Some signal))) rows
 abbrev pub stop : List Account → W → List Account
 stop rows w = at_account w (stands_as Stopped) rows
 
+-- the signal of a sponsor that stands so
 abbrev pub signal_in : Standing → Option W
 signal_in Stopped = None
 signal_in (Running signal) = signal

@@ -1,5 +1,5 @@
 -- The quad that spells an operation, the numbers that an operation may have, and what the table says that it costs.
-use Rattle.std.specs.Prelude.{ℕ, ◌+◌, ℤ, pos, negsuc, unsigned_abs, Bool, true, if◌then◌else◌, Option, Some, None}
+use Rattle.std.specs.Prelude.{ℕ, ◌+◌, pos, negsuc, unsigned_abs, Bool, true, if◌then◌else◌, Option, Some, None}
 use Rattle.std.specs.Ordering.{int_eq}
 use Rattle.cap_words.specs.declared.word.Quad.{Quad}
 use Rattle.cap_words.specs.Words.{W, Fix, undef, instr_t}
@@ -102,6 +102,7 @@ spelling Debug = (26, undef)
 abbrev pub spelled : Op → W → Quad
 spelled op next = record { t = instr_t; x = Fix (pos (spelling op).0); y = (spelling op).1; z = next }
 
+-- a charge of so many quads and events
 abbrev pub costs : ℕ → ℕ → Option Charge
 costs quads events = Some (record { quads = quads; events = events })
 

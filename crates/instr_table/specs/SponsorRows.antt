@@ -1,5 +1,5 @@
 -- The rows of the operations on sponsors, which act on the sheet at once.
-use Rattle.std.specs.Prelude.{ℕ, nat_lt, nat_le, if◌then◌else◌, ℤ, pos, negsuc, Bool, List, [], ◌∷◌, length, Option, Some, None}
+use Rattle.std.specs.Prelude.{ℕ, nat_lt, nat_le, if◌then◌else◌, ℤ, pos, negsuc, List, [], ◌∷◌, length, Option, Some, None}
 use Rattle.std.specs.Ordering.{int_eq}
 use Rattle.cap_words.specs.Words.{W, Cap, number_of, undef}
 use Rattle.cap_words.specs.Seen.{Seen, EventSlot, SponsorSlot, SpentSlot}
@@ -7,7 +7,7 @@ use Rattle.instr_table.specs.declared.charge.Quota.{Quota}
 use Rattle.instr_table.specs.declared.charge.Quota.TheVariants.{Memory, Events, Cycles}
 use Rattle.instr_table.specs.Types.{is_actor, is_sponsor}
 use Rattle.instr_table.specs.Lists.{next_quad, item}
-use Rattle.instr_table.specs.Event.{Effect, Sponsors, Grants, Reclaims, Starts, Stops}
+use Rattle.instr_table.specs.Event.{Sponsors, Grants, Reclaims, Starts, Stops}
 use Rattle.instr_table.specs.Sheet.{Account, held, spend, runs}
 use Rattle.instr_table.specs.Outcome.{Row, charge, does, goes, faults, not_actor, not_sponsor, short_of, is_running}
 
@@ -32,6 +32,7 @@ grantable None most = None
 grantable (Some (pos n)) most = if nat_le n most then Some n else None
 grantable (Some (negsuc n)) most = None
 
+-- the row of a grant of that number, where it is one
 abbrev pub grant_of : Option ℕ → Quota → Seen → W → W → Row
 grant_of None kind s sponsor k = faults 0 0 short_of
 grant_of (Some n) kind s sponsor k = if is_sponsor s sponsor then does 1 [] [] k (Grants sponsor kind n) else faults 0 0 not_sponsor

@@ -1,5 +1,5 @@
 -- What a program can tell of a word.
-use Rattle.std.specs.Prelude.{ℕ, nat_lt, if◌then◌else◌, ℤ, pos, Bool, true, false, ◌&&◌, ◌||◌, Option, Some, None, option_map}
+use Rattle.std.specs.Prelude.{◌≡◌, nat_lt, if◌then◌else◌, ℤ, pos, Bool, true, false, ◌&&◌, ◌||◌, Option, Some, None, option_map}
 use Rattle.cap_words.specs.declared.word.Quad.{Quad}
 use Rattle.cap_words.specs.Words.{W, Fix, Rom, Ram, Cap, same_word, number_of, undef, type_t, fixnum_t, actor_t, sponsor_t, func_t, block_t}
 use Rattle.cap_words.specs.Seen.{Seen, Slot, OpenSlot, ActorSlot, UnbornSlot, EventSlot, SponsorSlot, SpentSlot, cell_seen, slot_seen}
@@ -28,6 +28,10 @@ look_up s (Rom n) = option_map Readable (cell_seen s (Rom n))
 look_up s (Ram n) = option_map Readable (cell_seen s (Ram n))
 look_up s (Cap n) = opaque_in (slot_seen s (Cap n))
 
+-- a store that shows all that another one does
+pub record Grows (s t : Seen) : Type 0 where
+  pub keeps : (w : W) (x : Shown) → look_up s w ≡ Some x → look_up t w ≡ Some x
+
 -- the type of a word that names nothing: fixnums, and the constants from 4 on
 abbrev pub plain_type : W → Option W
 plain_type (Fix n) = Some fixnum_t
@@ -46,6 +50,7 @@ type_in None w = plain_type w
 abbrev pub type_of : Seen → W → Option W
 type_of s w = type_in (look_up s w) w
 
+-- whether it is this type
 abbrev pub is_type : Option W → W → Bool
 is_type None t = false
 is_type (Some u) t = same_word u t
@@ -57,6 +62,7 @@ shows_actor (Some (Readable q)) = false
 shows_actor (Some AnActor) = true
 shows_actor (Some ASponsor) = false
 
+-- whether a sponsor is shown
 abbrev pub shows_sponsor : Option Shown → Bool
 shows_sponsor None = false
 shows_sponsor (Some (Readable q)) = false

@@ -51,7 +51,8 @@ pub fn op_charge(op: Op) -> Option<Charge>
         Op::QuadTake(n) => Charge::quads(n.unsigned_abs()),
         Op::Pair(n) => Charge::quads(n.unsigned_abs() + 1),
         Op::Part(n) => Charge::quads(n.unsigned_abs() + 1),
-        Op::Drop(_) | Op::If(_) | Op::Jump | Op::End(_) | Op::Assert(_) | Op::Debug => Charge::quads(0),
+        Op::Drop(_) | Op::If(_) | Op::Jump | Op::End(_) | Op::Assert(_) | Op::Debug =>
+            Charge::quads(0),
         Op::ActorAssign | Op::ActorBecome => Charge::quads(0),
         Op::SponsorGrant(_) | Op::SponsorReclaim | Op::SponsorStop => Charge::quads(0),
         Op::Push(_) | Op::Pick(_) | Op::Depth | Op::Nth(_) | Op::Get(_) => Charge::quads(1),
@@ -61,13 +62,7 @@ pub fn op_charge(op: Op) -> Option<Charge>
         Op::QuadMake(_) | Op::ActorCreate | Op::DequeNew => Charge::quads(2),
         Op::DequePut(_) => Charge::quads(3),
         Op::ActorSend | Op::ActorPost | Op::SponsorStart => Charge::message(),
-        Op::DictPut(n) => {
-            if n == 3 {
-                None
-            } else {
-                Charge::quads(2)
-            }
-        }
+        Op::DictPut(n) => { if n == 3 { None } else { Charge::quads(2) } }
         Op::DictDel | Op::DequeTake(_) | Op::SponsorNew => None,
     }
 }

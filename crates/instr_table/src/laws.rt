@@ -1,36 +1,41 @@
 // What is so of every row of the table.
 
-ghost use Rattle.instr_table.specs.Laws.{ChargesAsListed, TakesWhatItCharges, AssignsToOwn, HandsOnWhatItHas};
+ghost use Rattle.instr_table.specs.Laws.{ChargesAsListed, TakesWhatItCharges, AssignsToOwn, HandsOnWhatItHas, ShownStays, ChangesKeepShown};
 ghost use Rattle.instr_table.specs.Authority.{EachKeepsAuthority};
 
 /// Each row charges what `op_charge` says of its operation, where that says something.
 pub fn charges_as_listed()
     ensures { ChargesAsListed }
-{
-}
+{}
 
 /// No row takes more quads than it charges, or sends more messages than it charges events.
 pub fn takes_what_it_charges()
     ensures { TakesWhatItCharges }
-{
-}
+{}
 
 /// `actor assign` changes only an actor that its own event created.
 pub fn assigns_to_own()
     ensures { AssignsToOwn }
-{
-}
+{}
 
 /// What a row pushes, goes on at, puts into new cells, sends, or gives to actors and sponsors, is a word that its event had at it, a word of
 /// a cell that such a word names, or the word of a cell, actor or sponsor that the row made.
 pub fn hands_on_what_it_has()
     ensures { HandsOnWhatItHas }
-{
-}
+{}
 
 /// After an instruction an event gets at no actor or sponsor but those that it got at before and those that the instruction made. This rests
 /// on that each RAM word names a quad that is taken, which each instruction keeps.
 pub fn keeps_authority()
     ensures { EachKeepsAuthority }
-{
-}
+{}
+
+/// What a word shows, the words of a cell, an actor or a sponsor, it shows after each instruction.
+pub fn shown_stays()
+    ensures { ShownStays }
+{}
+
+/// What a word shows, it shows after a quad was changed into one with the same words, where it is readable, and of the same kind.
+pub fn changes_keep_shown()
+    ensures { ChangesKeepShown }
+{}

@@ -13,5 +13,11 @@ mod op;
 pub use charge::{Charge, Quota, op_charge};
 pub use decoding::decode;
 pub use encoding::encode;
-pub use laws::{assigns_to_own, charges_as_listed, hands_on_what_it_has, keeps_authority, takes_what_it_charges};
+pub use laws::{
+    assigns_to_own, changes_keep_shown, charges_as_listed, hands_on_what_it_has, keeps_authority,
+    shown_stays, takes_what_it_charges,
+};
 pub use op::Op;
+
+#[cfg(test)]
+mod tests;
