@@ -4,3 +4,4 @@ pub mod Operands
 pub mod Ends
 pub mod Dictionaries
 pub mod Deques
+pub mod Costs
