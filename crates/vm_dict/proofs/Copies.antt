@@ -12,7 +12,7 @@ use Rattle.instr_table.specs.Dictionary.{entry_in, entry_quad, entries_to, entri
 use Rattle.instr_table.proofs.Charges.{length-linked}
 use Rattle.vm_dict.specs.declared.dict.Found.{Found}
 use Rattle.vm_dict.specs.Made.{Takes, HasRoom}
-use Rattle.vm_dict.specs.Calls.{found, set_in}
+use Rattle.vm_dict.specs.Calls.{copied_in, found, set_in}
 use Rattle.vm_dict.proofs.Taking.{cell-grown, takes-none, takes-append, takes-cons, next-takes, used-takes, room-takes}
 use Rattle.vm_dict.proofs.Entries.{entries-zero, entries-none, entries-some, entries-whole, before-first}
 
@@ -43,23 +43,19 @@ entries-grown s cells (suc n) w h =
 
 -- ---- the first entries copied
 
--- what copies of so many entries are
-abbrev pub copied : Memory → ℕ → W → W → Built
-copied m count dict tail = chained copy (next_quad (seen m.store)) (reverse (entries_to (seen m.store) count dict)) tail
-
-length-copied : (m : Memory) (count : ℕ) (dict tail : W) → length (entries_to (seen m.store) count dict) ≡ count → length (copied m count dict tail).cells ≡ count
+length-copied : (m : Memory) (count : ℕ) (dict tail : W) → length (entries_to (seen m.store) count dict) ≡ count → length (copied_in m count dict tail).cells ≡ count
 length-copied m count dict tail h = length-linked copy (next_quad (seen m.store)) (reverse (entries_to (seen m.store) count dict)) tail ∙ length-reverse (entries_to (seen m.store) count dict) ∙ h
 
 -- no entry
-pub copied-none : (m : Memory) (dict tail : W) → Takes m m (copied m 0 dict tail).cells × (tail ≡ (copied m 0 dict tail).word)
+pub copied-none : (m : Memory) (dict tail : W) → Takes m m (copied_in m 0 dict tail).cells × (tail ≡ (copied_in m 0 dict tail).word)
 copied-none m dict tail =
     subst (λ (es : List Quad). Takes m m (chained copy (next_quad (seen m.store)) (reverse es) tail).cells × (tail ≡ (chained copy (next_quad (seen m.store)) (reverse es) tail).word))
     (sym (entries-zero (seen m.store) dict)) (takes-none m, refl)
 
 -- one entry, after those behind it
 pub record Copied (old new : Memory) (count : ℕ) (dict tail word : W) : Type 0 where
-  pub cells : Takes old new (copied old count dict tail).cells
-  pub word_is : word ≡ (copied old count dict tail).word
+  pub cells : Takes old new (copied_in old count dict tail).cells
+  pub word_is : word ≡ (copied_in old count dict tail).word
 
 pub copied-more : (old mid new : Memory) (c k : ℕ) (dict tail next word : W) (e : Quad) → c ≡ suc k → Some e ≡ entry_in (cell_seen (seen old.store) dict) → length (entries_to (seen old.store) k e.z) ≡ k → Copied old mid k e.z tail next → Takes mid new (OpenSlot (entry_quad e.x e.y next) ∷ []) → word ≡ Ram (next_quad (seen mid.store)) → Copied old new c dict tail word
 copied-more old mid new c k dict tail next word e ce is whole h t we =
@@ -68,13 +64,13 @@ copied-more old mid new c k dict tail next word e ce is whole h t we =
     let es = entries_to s k e.z in
     let all : reverse (entries_to s c dict) ≡ reverse es ++ e ∷ [] =
     ap (λ (m : ℕ). reverse (entries_to s m dict)) ce ∙ ap (λ (l : List Quad). reverse l) (entries-some s k dict e (sym is)) ∙ reverse-append (e ∷ []) es in
-    let cells : (copied old k e.z tail).cells ++ OpenSlot (entry_quad e.x e.y next) ∷ [] ≡ (copied old c dict tail).cells =
+    let cells : (copied_in old k e.z tail).cells ++ OpenSlot (entry_quad e.x e.y next) ∷ [] ≡ (copied_in old c dict tail).cells =
     ap (λ (v : W). linked copy n (reverse es) tail ++ OpenSlot (entry_quad e.x e.y v) ∷ []) h.word_is
     ∙ sym (ap (λ (l : List Quad). linked copy n l tail) all ∙ linked-more copy n (reverse es) e tail) in
     let place : next_quad (seen mid.store) ≡ n + length (reverse es) =
-    next-takes old mid (copied old k e.z tail).cells h.cells ∙ ap (λ (m : ℕ). n + m) (length-linked copy n (reverse es) tail) in
+    next-takes old mid (copied_in old k e.z tail).cells h.cells ∙ ap (λ (m : ℕ). n + m) (length-linked copy n (reverse es) tail) in
     record {
-      cells = subst (λ (l : List Slot). Takes old new l) cells (takes-append old mid new (copied old k e.z tail).cells (OpenSlot (entry_quad e.x e.y next) ∷ []) h.cells t);
+      cells = subst (λ (l : List Slot). Takes old new l) cells (takes-append old mid new (copied_in old k e.z tail).cells (OpenSlot (entry_quad e.x e.y next) ∷ []) h.cells t);
       word_is = we ∙ ap Ram place ∙ sym (ap (λ (l : List Quad). last_linked n l tail) all ∙ last-more n (reverse es) e tail);
     }
 
@@ -88,11 +84,11 @@ pub copied-there : (s : Seen) (c : ℕ) (dict : W) → (c ≡ 0 → ⊥) → len
 copied-there s c dict some whole is = let l : length (entries_to s c dict) ≡ 0 = ap length (entries-none s c dict (sym is)) in some (omega arith)
 
 -- room for one more
-pub copied-room : (old mid : Memory) (c k : ℕ) (dict tail : W) → c ≡ suc k → length (entries_to (seen old.store) k dict) ≡ k → Takes old mid (copied old k dict tail).cells → used old.store + c ≤ old.room → used mid.store < mid.room
+pub copied-room : (old mid : Memory) (c k : ℕ) (dict tail : W) → c ≡ suc k → length (entries_to (seen old.store) k dict) ≡ k → Takes old mid (copied_in old k dict tail).cells → used old.store + c ≤ old.room → used mid.store < mid.room
 copied-room old mid c k dict tail ce whole t h =
     let l = length-copied old k dict tail whole in
-    let u = used-takes old mid (copied old k dict tail).cells t in
-    let r = room-takes old mid (copied old k dict tail).cells t in
+    let u = used-takes old mid (copied_in old k dict tail).cells t in
+    let r = room-takes old mid (copied_in old k dict tail).cells t in
     omega arith
 
 -- ---- what a search found
@@ -134,25 +130,40 @@ found-whole s dict key f h =
 found-before : (s : Seen) (dict key : W) (f : Found) → Some f ≡ found key (entries s dict) → before key (entries s dict) ≡ entries_to s f.before dict
 found-before s dict key f h = before-first s longest dict key ∙ ap (λ (n : ℕ). entries_to s n dict) (sym (found-parts key (entries s dict) f h).1)
 
--- ---- the results, by what a search found
+-- ---- the results, by the first entry with the key
 
-set-some : (s : Seen) (n : ℕ) (dict key value : W) (f : Found) → Some f ≡ found key (entries s dict) → dict_set s n dict key value ≡ chained copy n (entry_quad key value undef ∷ reverse (entries_to s f.before dict)) f.entry.z
+pub set-none_with : (s : Seen) (n : ℕ) (dict key value : W) → first_with key (entries s dict) ≡ None → dict_set s n dict key value ≡ dict_added n dict key value
 unfolding dict_set
-set-some s n dict key value f h =
-    rw ((found-parts key (entries s dict) f h).0) (ap (λ (es : List Quad). chained copy n (entry_quad key value undef ∷ reverse es) f.entry.z) (found-before s dict key f h))
+set-none_with s n dict key value h = rw h
+
+pub set-first_with : (s : Seen) (n : ℕ) (dict key value : W) (e : Quad) → first_with key (entries s dict) ≡ Some e → dict_set s n dict key value ≡ chained copy n (entry_quad key value undef ∷ reverse (before key (entries s dict))) e.z
+unfolding dict_set
+set-first_with s n dict key value e h = rw h
+
+pub del-none_with : (s : Seen) (n : ℕ) (dict key : W) → first_with key (entries s dict) ≡ None → dict_del s n dict key ≡ record { cells = []; word = dict }
+unfolding dict_del
+del-none_with s n dict key h = rw h
+
+pub del-first_with : (s : Seen) (n : ℕ) (dict key : W) (e : Quad) → first_with key (entries s dict) ≡ Some e → dict_del s n dict key ≡ chained copy n (reverse (before key (entries s dict))) e.z
+unfolding dict_del
+del-first_with s n dict key e h = rw h
+
+-- and by what a search found
 
 pub set-none : (s : Seen) (n : ℕ) (dict key value : W) → None ≡ found key (entries s dict) → dict_set s n dict key value ≡ dict_added n dict key value
-unfolding dict_set
-set-none s n dict key value h = rw (found-none key (entries s dict) h)
+set-none s n dict key value h = set-none_with s n dict key value (found-none key (entries s dict) h)
 
-pub del-some : (s : Seen) (n : ℕ) (dict key : W) (f : Found) → Some f ≡ found key (entries s dict) → dict_del s n dict key ≡ chained copy n (reverse (entries_to s f.before dict)) f.entry.z
-unfolding dict_del
-del-some s n dict key f h =
-    rw ((found-parts key (entries s dict) f h).0) (ap (λ (es : List Quad). chained copy n (reverse es) f.entry.z) (found-before s dict key f h))
+set-some : (s : Seen) (n : ℕ) (dict key value : W) (f : Found) → Some f ≡ found key (entries s dict) → dict_set s n dict key value ≡ chained copy n (entry_quad key value undef ∷ reverse (entries_to s f.before dict)) f.entry.z
+set-some s n dict key value f h =
+    set-first_with s n dict key value f.entry (found-parts key (entries s dict) f h).0
+    ∙ ap (λ (es : List Quad). chained copy n (entry_quad key value undef ∷ reverse es) f.entry.z) (found-before s dict key f h)
 
 pub del-none : (s : Seen) (n : ℕ) (dict key : W) → None ≡ found key (entries s dict) → dict_del s n dict key ≡ record { cells = []; word = dict }
-unfolding dict_del
-del-none s n dict key h = rw (found-none key (entries s dict) h)
+del-none s n dict key h = del-none_with s n dict key (found-none key (entries s dict) h)
+
+pub del-some : (s : Seen) (n : ℕ) (dict key : W) (f : Found) → Some f ≡ found key (entries s dict) → dict_del s n dict key ≡ chained copy n (reverse (entries_to s f.before dict)) f.entry.z
+del-some s n dict key f h =
+    del-first_with s n dict key f.entry (found-parts key (entries s dict) f h).0 ∙ ap (λ (es : List Quad). chained copy n (reverse es) f.entry.z) (found-before s dict key f h)
 
 -- how many cells
 pub length-set : (s : Seen) (n : ℕ) (dict key value : W) (f : Found) → Some f ≡ found key (entries s dict) → length (dict_set s n dict key value).cells ≡ f.before + 1
@@ -197,10 +208,10 @@ module _ (old mid : Memory) (dict key value tail : W) (f : Found) (h : Some f �
       let same : entries_to (seen mid.store) f.before dict ≡ es =
       ap (λ (s : Seen). entries_to s f.before dict) t.seen_is ∙ entries-grown s (x ∷ []) f.before dict (found-whole s dict key f h) in
       let next : next_quad (seen mid.store) ≡ suc n = next-takes old mid (x ∷ []) t ∙ add-one n in
-      let all : copied mid f.before dict tail ≡ chained copy (suc n) (reverse es) (Ram n) =
+      let all : copied_in mid f.before dict tail ≡ chained copy (suc n) (reverse es) (Ram n) =
       (λ i. chained copy (next i) (reverse (same i)) (te i)) in
       let set : dict_set s n dict key value ≡ record { cells = x ∷ linked copy (suc n) (reverse es) (Ram n); word = last_linked (suc n) (reverse es) (Ram n) } = set-some s n dict key value f h in (
         subst (λ (l : List Slot). Takes old new l) (ap (λ (b : Built). x ∷ b.cells) all ∙ sym (ap (λ (b : Built). b.cells) set))
-            (takes-cons old mid new x (copied mid f.before dict tail).cells t c.cells),
+            (takes-cons old mid new x (copied_in mid f.before dict tail).cells t c.cells),
         c.word_is ∙ ap (λ (b : Built). b.word) all ∙ sym (ap (λ (b : Built). b.word) set),
       )

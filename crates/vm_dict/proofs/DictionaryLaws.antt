@@ -7,13 +7,13 @@ use Rattle.cap_words.specs.Words.{W, Ram, undef, same_word}
 use Rattle.cap_words.specs.Seen.{Seen, Slot, OpenSlot, seen, grown}
 use Rattle.cap_words.proofs.Same.{word_is, word_same, word_other}
 use Rattle.quad_memory.specs.Memory.{Memory}
-use Rattle.instr_table.specs.Lists.{Built, chained, linked, last_linked, next_quad, longest}
-use Rattle.instr_table.specs.Dictionary.{entry_in, entry_quad, entries_to, entries, first_with, before, copy, dict_set, dict_del, dict_added}
+use Rattle.instr_table.specs.Lists.{Built, linked, last_linked, next_quad, longest}
+use Rattle.instr_table.specs.Dictionary.{entry_in, entry_quad, entries_to, entries, first_with, before, copy, dict_set, dict_del}
 use Rattle.vm_dict.specs.Made.{Takes}
 use Rattle.vm_dict.specs.Calls.{value_at, set_in, deleted_in, added_in}
 use Rattle.vm_dict.specs.Dictionaries.{IsDictionary, looked_up, replaced, assigned, left_out, GetsLookedUp, AddsInFront, SetsAssigned, DeletesLeftOut, DictionariesStand}
 use Rattle.vm_dict.proofs.Entries.{entries-none, entries-some}
-use Rattle.vm_dict.proofs.Copies.{entry-grown}
+use Rattle.vm_dict.proofs.Copies.{entry-grown, set-none_with, set-first_with, del-none_with, del-first_with}
 use Rattle.vm_dict.proofs.Standing.{grown-none, grown-append, next-grown, taken-grown, seen-grown, seen-first, reverse-cons, map-reversed}
 
 -- an entry's key and value
@@ -107,22 +107,6 @@ splits s key (suc m) w (a ∷ es) e h le f =
 
 -- ---- set and delete
 
-set-none : (s : Seen) (n : ℕ) (w key value : W) → first_with key (entries s w) ≡ None → dict_set s n w key value ≡ dict_added n w key value
-unfolding dict_set
-set-none s n w key value h = rw h
-
-set-some : (s : Seen) (n : ℕ) (w key value : W) (e : Quad) → first_with key (entries s w) ≡ Some e → dict_set s n w key value ≡ chained copy n (entry_quad key value undef ∷ reverse (before key (entries s w))) e.z
-unfolding dict_set
-set-some s n w key value e h = rw h
-
-del-none : (s : Seen) (n : ℕ) (w key : W) → first_with key (entries s w) ≡ None → dict_del s n w key ≡ record { cells = []; word = w }
-unfolding dict_del
-del-none s n w key h = rw h
-
-del-some : (s : Seen) (n : ℕ) (w key : W) (e : Quad) → first_with key (entries s w) ≡ Some e → dict_del s n w key ≡ chained copy n (reverse (before key (entries s w))) e.z
-unfolding dict_del
-del-some s n w key e h = rw h
-
 -- keys and values in front again
 turned-back : (bs : List Quad) → reverse (map pair_of (reverse bs)) ≡ map pair_of bs
 turned-back bs = ap (λ (l : List (W × W)). reverse l) (map-reversed pair_of bs) ∙ reverse-reverse (map pair_of bs)
@@ -147,7 +131,7 @@ module _ (s : Seen) (w key : W) (es : List (W × W)) (h : IsDictionary s w es) (
       let k : looked_up key es ≡ None = looked None f in
       let l : assigned key value es ≡ (key, value) ∷ es = ap (λ (o : Option W). if is_some o then replaced key value es else (key, value) ∷ es) k in
       subst (IsBuilt (dict_set s (next_quad s) w key value)) (sym l)
-      (subst (λ (b : Built). IsBuilt b ((key, value) ∷ es)) (sym (set-none s (next_quad s) w key value f)) (dictionary-added s w key value es h))
+      (subst (λ (b : Built). IsBuilt b ((key, value) ∷ es)) (sym (set-none_with s (next_quad s) w key value f)) (dictionary-added s w key value es h))
   built-set value (Some e) f =
       let p = splits s key longest w es e h le f in
       let bs = before key (entries s w) in
@@ -157,20 +141,20 @@ module _ (s : Seen) (w key : W) (es : List (W × W)) (h : IsDictionary s w es) (
       let m : reverse (map pair_of (new ∷ reverse bs)) ++ p.rest ≡ assigned key value es =
       reverse-cons (key, value) (map pair_of (reverse bs)) p.rest ∙ ap (λ (x : List (W × W)). x ++ (key, value) ∷ p.rest) (turned-back bs) ∙ sym (p.with_new value) ∙ sym l in
       subst (IsBuilt (dict_set s (next_quad s) w key value)) m
-      (subst (λ (b : Built). IsBuilt b (reverse (map pair_of (new ∷ reverse bs)) ++ p.rest)) (sym (set-some s (next_quad s) w key value e f))
+      (subst (λ (b : Built). IsBuilt b (reverse (map pair_of (new ∷ reverse bs)) ++ p.rest)) (sym (set-first_with s (next_quad s) w key value e f))
       (dictionary-linked s (new ∷ reverse bs) e.z p.rest p.stands))
 
   built-del : (o : Option Quad) → first_with key (entries s w) ≡ o → IsBuilt (dict_del s (next_quad s) w key) (left_out key es)
   built-del None f =
       let k : looked_up key es ≡ None = looked None f in
       subst (IsBuilt (dict_del s (next_quad s) w key)) (sym (left-none key es k))
-      (subst (λ (b : Built). IsBuilt b es) (sym (del-none s (next_quad s) w key f)) (dictionary-grown s [] w es h))
+      (subst (λ (b : Built). IsBuilt b es) (sym (del-none_with s (next_quad s) w key f)) (dictionary-grown s [] w es h))
   built-del (Some e) f =
       let p = splits s key longest w es e h le f in
       let bs = before key (entries s w) in
       let m : reverse (map pair_of (reverse bs)) ++ p.rest ≡ left_out key es = ap (λ (x : List (W × W)). x ++ p.rest) (turned-back bs) ∙ sym p.without in
       subst (IsBuilt (dict_del s (next_quad s) w key)) m
-      (subst (λ (b : Built). IsBuilt b (reverse (map pair_of (reverse bs)) ++ p.rest)) (sym (del-some s (next_quad s) w key e f))
+      (subst (λ (b : Built). IsBuilt b (reverse (map pair_of (reverse bs)) ++ p.rest)) (sym (del-first_with s (next_quad s) w key e f))
       (dictionary-linked s (reverse bs) e.z p.rest p.stands))
 
 -- ---- the laws of the calls

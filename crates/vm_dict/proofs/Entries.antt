@@ -73,7 +73,8 @@ pub record Searching (s : Seen) (m : ℕ) (dict key : W) (i : ℕ) (at : W) : Ty
 pub searching-start : (s : Seen) (m : ℕ) (dict key : W) → Searching s m dict key 0 dict
 searching-start s m dict key = record { left = m; count = omega arith; found_is = found-start key (entries_to s m dict) }
 
-one_left : (i n m : ℕ) → i + n ≡ m → i < m → (k : ℕ) × (n ≡ suc k)
+-- where so few were passed, one is left
+pub one_left : (i n m : ℕ) → i + n ≡ m → i < m → (k : ℕ) × (n ≡ suc k)
 one_left i zero m e h = absurd (omega arith)
 one_left i (suc k) m e h = (k, refl)
 

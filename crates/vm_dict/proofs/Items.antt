@@ -5,6 +5,7 @@ use Rattle.cap_words.specs.Words.{W}
 use Rattle.cap_words.specs.Seen.{Seen, Slot, cell_seen, grown}
 use Rattle.instr_table.specs.Lists.{pair_in, items_to}
 use Rattle.vm_dict.proofs.Taking.{cell-grown}
+use Rattle.vm_dict.proofs.Entries.{one_left}
 
 pub items-zero : (s : Seen) (w : W) → items_to s 0 w ≡ []
 unfolding items_to
@@ -52,10 +53,6 @@ pub record Counting (s : Seen) (m : ℕ) (list : W) (i : ℕ) (at : W) : Type 0 
 
 pub counting-start : (s : Seen) (m : ℕ) (list : W) → Counting s m list 0 list
 counting-start s m list = record { left = m; count = omega arith; length_is = omega arith }
-
-one_left : (i n m : ℕ) → i + n ≡ m → i < m → (k : ℕ) × (n ≡ suc k)
-one_left i zero m e h = absurd (omega arith)
-one_left i (suc k) m e h = (k, refl)
 
 pub counting-more : (s : Seen) (m : ℕ) (list : W) (i : ℕ) (at : W) (q : Quad) → Counting s m list i at → i < m → Some q ≡ pair_in (cell_seen s at) → Counting s m list (i + 1) q.y
 counting-more s m list i at q h low is =

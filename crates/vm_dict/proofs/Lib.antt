@@ -7,4 +7,4 @@ pub mod Turns
 pub mod Standing
 pub mod DictionaryLaws
 pub mod DequeLaws
-pub mod Owning
+mod Owning

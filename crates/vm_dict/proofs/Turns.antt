@@ -1,5 +1,5 @@
 -- A list that is turned round, item by item.
-use Rattle.std.proofs.Common.{◌≡◌, ℕ, zero, suc, ◌+◌, ◌<◌, ◌≤◌, List, [], ◌∷◌, ◌++◌, length, Option, Some, None, refl, ap, ap₂, sym, ◌∙◌, subst, arith, append_assoc, append-nil, length-append}
+use Rattle.std.proofs.Common.{◌≡◌, ℕ, suc, ◌+◌, ◌<◌, ◌≤◌, List, [], ◌∷◌, ◌++◌, length, Option, Some, None, refl, ap, ap₂, sym, ◌∙◌, subst, arith, append_assoc, append-nil, length-append}
 use Rattle.cap_words.specs.declared.word.Quad.{Quad}
 use Rattle.cap_words.specs.Words.{W, Ram, nil, undef}
 use Rattle.cap_words.specs.Store.{used}
@@ -10,6 +10,7 @@ use Rattle.instr_table.specs.Deque.{Taking, turned, turned_on, taken_from, takin
 use Rattle.vm_dict.specs.Made.{Takes, HasRoom}
 use Rattle.vm_dict.specs.Calls.{taking_in}
 use Rattle.vm_dict.proofs.Taking.{takes-none, takes-append, next-takes, used-takes, room-takes}
+use Rattle.vm_dict.proofs.Entries.{one_left}
 use Rattle.vm_dict.proofs.Items.{items-zero, items-some, items-whole, items-counted, pair-grown}
 
 -- ---- how many cells
@@ -95,10 +96,6 @@ pub record Next (old now : Memory) (count : ℕ) (i : ℕ) (at : W) : Type 0 whe
   pub there : pair_in (cell_seen (seen now.store) at) ≡ Some pair
   pub whole : length (items_to (seen old.store) left pair.y) ≡ left
   pub before : pair_in (cell_seen (seen old.store) at) ≡ Some pair
-
-one_left : (i n m : ℕ) → i + n ≡ m → i < m → (k : ℕ) × (n ≡ suc k)
-one_left i zero m e h = absurd (omega arith)
-one_left i (suc k) m e h = (k, refl)
 
 pub turning-next : (old now : Memory) (count : ℕ) (far : W) (i : ℕ) (at list near value : W) → Turning old now count far i at list near value → i < count → Next old now count i at
 turning-next old now count far i at list near value h low =

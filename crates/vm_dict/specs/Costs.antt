@@ -1,17 +1,14 @@
 -- What the operations cost, by what their calls take.
-use Rattle.std.specs.Prelude.{◌≡◌, ℕ, ◌+◌, ℤ, pos, List, length}
-use Rattle.cap_words.specs.Words.{W, nil}
+use Rattle.std.specs.Prelude.{◌≡◌, ℕ, ◌+◌, List, length}
+use Rattle.cap_words.specs.Words.{W}
 use Rattle.cap_words.specs.Seen.{seen}
 use Rattle.quad_memory.specs.Memory.{Memory}
 use Rattle.instr_table.specs.declared.op.Op.{Op}
-use Rattle.instr_table.specs.declared.op.Op.TheVariants.{DictTest, DictPut, DictDel, DequeNew, DequeTest, DequePut, DequeTake}
-use Rattle.instr_table.specs.Lists.{next_quad, item, one_cell, Built}
-use Rattle.instr_table.specs.Deque.{deque_quad}
+use Rattle.instr_table.specs.Lists.{Built}
 use Rattle.instr_table.specs.Event.{Own, Effects}
 use Rattle.instr_table.specs.Sheet.{Account}
 use Rattle.instr_table.specs.Outcome.{charge}
 use Rattle.instr_table.specs.Row.{row}
-use Rattle.vm_dict.specs.Calls.{added_in, set_in, deleted_in, pushed_in, put_in, popped_in, pulled_in}
 
 -- whatever else the event has, the operation costs so many quads on that stack, and no message
 abbrev pub Costs : Op → (Memory → List W → ℕ) → Type 0

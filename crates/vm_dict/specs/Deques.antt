@@ -1,14 +1,14 @@
 -- A deque as the list of its values.
 use Rattle.std.specs.Prelude.{◌≡◌, ◌<◌, ◌≤◌, List, [], ◌∷◌, ◌++◌, length, reverse, drop, Some, None}
 use Rattle.cap_words.specs.declared.word.Quad.{Quad}
-use Rattle.cap_words.specs.Words.{W, nil}
+use Rattle.cap_words.specs.Words.{W}
 use Rattle.cap_words.specs.Seen.{Seen, Slot, seen, cell_seen}
-use Rattle.instr_table.specs.Lists.{next_quad, longest, pair_in, items, item, one_cell}
-use Rattle.instr_table.specs.Deque.{ends, deque_len, deque_quad}
+use Rattle.instr_table.specs.Lists.{next_quad, longest, pair_in, items, item}
+use Rattle.instr_table.specs.Deque.{ends, deque_len}
 use Rattle.instr_table.specs.Authority.{IsTaken}
 use Rattle.quad_memory.specs.Memory.{Memory}
 use Rattle.vm_dict.specs.Made.{Takes}
-use Rattle.vm_dict.specs.Calls.{pushed_in, put_in, from_front, from_back, popped_in, pulled_in}
+use Rattle.vm_dict.specs.Calls.{new_in, pushed_in, put_in, from_front, from_back, popped_in, pulled_in}
 
 -- the word stands for these values: a pair for each, and at the end a word that names none and no quad that is still to be taken, as `#nil`
 abbrev pub IsList : Seen → W → List W → Type 0
@@ -35,7 +35,7 @@ abbrev pub CountsItsValues : Type 0
 CountsItsValues = (m : Memory) (deque : W) (vs : List W) → IsDequeIn m deque vs → deque_len (seen m.store) deque ≡ length vs
 
 abbrev pub BeginsEmpty : Type 0
-BeginsEmpty = (old new : Memory) → Takes old new (one_cell (next_quad (seen old.store)) (deque_quad nil nil)).cells → IsDequeIn new (one_cell (next_quad (seen old.store)) (deque_quad nil nil)).word []
+BeginsEmpty = (old new : Memory) → Takes old new (new_in old).cells → IsDequeIn new (new_in old).word []
 
 -- where the front list is not full
 abbrev pub PushesInFront : Type 0

@@ -1,13 +1,14 @@
 // The cells that lists are made of.
 
 ghost use Rattle.std.specs.Prelude.{◌≡◌, ◌<◌, [], ◌∷◌};
-ghost use Rattle.cap_words.specs.Words.{Ram, same_word};
+ghost use Rattle.cap_words.specs.Words.{same_word};
 ghost use Rattle.cap_words.specs.Seen.{OpenSlot, seen, cell_seen};
 ghost use Rattle.cap_words.specs.Store.{used};
-ghost use Rattle.instr_table.specs.Lists.{pair_in, pair_quad, next_quad};
+ghost use Rattle.instr_table.specs.Lists.{pair_in, pair_quad};
 ghost use Rattle.instr_table.specs.Dictionary.{entry_in, entry_quad};
 ghost use Rattle.instr_table.specs.Deque.{deque_quad};
 ghost use Rattle.vm_dict.specs.Made.{Takes};
+ghost use Rattle.vm_dict.specs.Calls.{next_word};
 
 use cap_words::{Quad, Word};
 use quad_memory::Quads;
@@ -58,7 +59,7 @@ pub(crate) fn pair(quads: &Quads, w: Word) -> Option<Quad>
 fn take(quads: &mut Quads, q: &Quad) -> Word
     requires { used quads.old.store < quads.old.room }
     ensures cells { Takes quads.old quads.new (OpenSlot q.now ∷ []) }
-    ensures word { result ≡ Ram (next_quad (seen quads.old.store)) }
+    ensures word { result ≡ next_word quads.old }
 {
     quads.take(*q)
 }
@@ -67,7 +68,7 @@ fn take(quads: &mut Quads, q: &Quad) -> Word
 pub(crate) fn take_entry(quads: &mut Quads, key: Word, value: Word, next: Word) -> Word
     requires { used quads.old.store < quads.old.room }
     ensures cells { Takes quads.old quads.new (OpenSlot (entry_quad key value next) ∷ []) }
-    ensures word { result ≡ Ram (next_quad (seen quads.old.store)) }
+    ensures word { result ≡ next_word quads.old }
 {
     let q = Quad {
         t: Word::DICT_T,
@@ -82,7 +83,7 @@ pub(crate) fn take_entry(quads: &mut Quads, key: Word, value: Word, next: Word) 
 pub(crate) fn take_pair(quads: &mut Quads, head: Word, tail: Word) -> Word
     requires { used quads.old.store < quads.old.room }
     ensures cells { Takes quads.old quads.new (OpenSlot (pair_quad head tail) ∷ []) }
-    ensures word { result ≡ Ram (next_quad (seen quads.old.store)) }
+    ensures word { result ≡ next_word quads.old }
 {
     let q = Quad {
         t: Word::PAIR_T,
@@ -97,7 +98,7 @@ pub(crate) fn take_pair(quads: &mut Quads, head: Word, tail: Word) -> Word
 pub(crate) fn take_deque(quads: &mut Quads, front: Word, back: Word) -> Word
     requires { used quads.old.store < quads.old.room }
     ensures cells { Takes quads.old quads.new (OpenSlot (deque_quad front back) ∷ []) }
-    ensures word { result ≡ Ram (next_quad (seen quads.old.store)) }
+    ensures word { result ≡ next_word quads.old }
 {
     let q = Quad {
         t: Word::DEQUE_T,

@@ -1,17 +1,12 @@
 // What the operations cost.
 
-ghost use Rattle.std.specs.Prelude.{◌≡◌, ℕ, ◌+◌, if◌then◌else◌, List, length, pos, IsTrue};
-ghost use Rattle.std.specs.Ordering.{int_eq};
+ghost use Rattle.std.specs.Prelude.{◌≡◌, ℕ, ◌+◌, length, IsTrue};
 ghost use Rattle.cap_words.specs.Words.{W};
 ghost use Rattle.cap_words.specs.Seen.{seen};
-ghost use Rattle.instr_table.specs.declared.op.Op.{Op};
 ghost use Rattle.instr_table.specs.Dictionary.{dict_set, dict_del};
-ghost use Rattle.instr_table.specs.Deque.{ends, taking};
-ghost use Rattle.instr_table.specs.Event.{Own, Effects};
-ghost use Rattle.instr_table.specs.Sheet.{Account};
+ghost use Rattle.instr_table.specs.Deque.{taking};
 ghost use Rattle.instr_table.specs.Outcome.{charge};
-ghost use Rattle.instr_table.specs.Row.{row};
-ghost use Rattle.vm_dict.specs.Operands.{is_list_op, AreOperands};
+ghost use Rattle.vm_dict.specs.Operands.{is_list_op, IsCost};
 
 use crate::cells::pair;
 use crate::deque::{item_count, lists_of};
@@ -24,7 +19,7 @@ use quad_memory::Quads;
 /// operand does not look at it.
 pub fn cost(quads: &Quads, op: Op, list: Word, key: Word) -> Charge
     requires { IsTrue (is_list_op op) }
-    ensures { (own : Own) → (sheet : List Account) → (e : Effects) → (vs : List W) → (k : W) → AreOperands op vs list key → result ≡ (row own op (seen quads.now.store) sheet e vs k).charge }
+    ensures { IsCost op quads.now list key result }
 {
     match op {
         Op::DictTest(_) | Op::DequeTest(_) => only_quads(1),

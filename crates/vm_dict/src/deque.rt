@@ -1,13 +1,11 @@
 // Deques.
 
-ghost use Rattle.std.specs.Prelude.{◌≡◌, ◌+◌, ◌≤◌, length};
-ghost use Rattle.cap_words.specs.Words.{nil};
+ghost use Rattle.std.specs.Prelude.{◌≡◌, ◌≤◌, length};
 ghost use Rattle.cap_words.specs.Seen.{seen};
-ghost use Rattle.cap_words.specs.Store.{used};
-ghost use Rattle.instr_table.specs.Lists.{next_quad, items, one_cell};
-ghost use Rattle.instr_table.specs.Deque.{ends, deque_quad, deque_len, taking, turned};
+ghost use Rattle.instr_table.specs.Lists.{items};
+ghost use Rattle.instr_table.specs.Deque.{ends, deque_len};
 ghost use Rattle.vm_dict.specs.Made.{Takes, HasRoom};
-ghost use Rattle.vm_dict.specs.Calls.{pushed_in, put_in, from_front, from_back, popped_in, pulled_in, taking_in};
+ghost use Rattle.vm_dict.specs.Calls.{new_in, pushed_in, put_in, from_front, from_back, popped_in, pulled_in, taking_in, turned_in};
 ghost use Rattle.vm_dict.specs.Ends.{IsEnds, IsRest};
 
 use crate::cells::{LONGEST, cell, is_same, pair, take_deque, take_pair};
@@ -86,9 +84,9 @@ pub fn deque_len(quads: &Quads, deque: Word) -> u32
 
 /// An empty deque.
 pub fn deque_new(quads: &mut Quads) -> Word
-    requires { HasRoom quads.old (one_cell (next_quad (seen quads.old.store)) (deque_quad nil nil)).cells }
-    ensures cells { Takes quads.old quads.new (one_cell (next_quad (seen quads.old.store)) (deque_quad nil nil)).cells }
-    ensures word { result ≡ (one_cell (next_quad (seen quads.old.store)) (deque_quad nil nil)).word }
+    requires { HasRoom quads.old (new_in quads.old).cells }
+    ensures cells { Takes quads.old quads.new (new_in quads.old).cells }
+    ensures word { result ≡ (new_in quads.old).word }
 {
     take_deque(quads, Word::NIL, Word::NIL)
 }
@@ -164,9 +162,9 @@ fn take_end(quads: &mut Quads, near: Word, far: Word) -> Rest
 // Turns a list round and takes the first value of the new one. The items are counted before any quad is taken, so that a list which ends
 // in a word of no quad yet does not go on into the new cells.
 fn turn(quads: &mut Quads, far: Word) -> Rest
-    requires { HasRoom quads.old (turned (next_quad (seen quads.old.store)) (items (seen quads.old.store) far)).cells }
-    ensures cells { Takes quads.old quads.new (turned (next_quad (seen quads.old.store)) (items (seen quads.old.store) far)).cells }
-    ensures rest { IsRest result (turned (next_quad (seen quads.old.store)) (items (seen quads.old.store) far)) }
+    requires { HasRoom quads.old (turned_in quads.old far).cells }
+    ensures cells { Takes quads.old quads.new (turned_in quads.old far).cells }
+    ensures rest { IsRest result (turned_in quads.old far) }
 {
     let count = item_count(quads, far);
     let mut at = far;

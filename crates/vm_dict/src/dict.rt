@@ -1,12 +1,11 @@
 // Dictionaries.
 
-ghost use Rattle.std.specs.Prelude.{◌≡◌, ◌+◌, ◌≤◌, length, reverse, IfSome};
+ghost use Rattle.std.specs.Prelude.{◌≡◌, ◌+◌, ◌≤◌, length, IfSome};
 ghost use Rattle.cap_words.specs.Seen.{seen};
 ghost use Rattle.cap_words.specs.Store.{used};
-ghost use Rattle.instr_table.specs.Lists.{next_quad, chained};
-ghost use Rattle.instr_table.specs.Dictionary.{entries, entries_to, copy};
+ghost use Rattle.instr_table.specs.Dictionary.{entries, entries_to};
 ghost use Rattle.vm_dict.specs.Made.{Takes, HasRoom};
-ghost use Rattle.vm_dict.specs.Calls.{value_at, found, added_in, set_in, deleted_in};
+ghost use Rattle.vm_dict.specs.Calls.{value_at, found, added_in, set_in, deleted_in, copied_in};
 
 use crate::cells::{LONGEST, entry, is_same, take_entry};
 use cap_words::{Quad, Word};
@@ -86,8 +85,8 @@ pub fn dict_del(quads: &mut Quads, dict: Word, key: Word) -> Word
 fn copy_first(quads: &mut Quads, dict: Word, count: u32, tail: Word) -> Word
     requires whole { length (entries_to (seen quads.old.store) count dict) ≡ count }
     requires room { used quads.old.store + count ≤ quads.old.room }
-    ensures cells { Takes quads.old quads.new (chained copy (next_quad (seen quads.old.store)) (reverse (entries_to (seen quads.old.store) count dict)) tail).cells }
-    ensures word { result ≡ (chained copy (next_quad (seen quads.old.store)) (reverse (entries_to (seen quads.old.store) count dict)) tail).word }
+    ensures cells { Takes quads.old quads.new (copied_in quads.old count dict tail).cells }
+    ensures word { result ≡ (copied_in quads.old count dict tail).word }
 {
     if count == 0 {
         return tail;

@@ -1,12 +1,10 @@
 // What dictionaries and deques stand for.
 
 ghost use Rattle.std.specs.Prelude.{◌≡◌, ℤ, pos, Some, ◌∷◌, List};
-ghost use Rattle.cap_words.specs.Words.{W, nil};
-ghost use Rattle.cap_words.specs.Seen.{seen};
+ghost use Rattle.cap_words.specs.Words.{W};
 ghost use Rattle.instr_table.specs.declared.op.Op.{Op};
-ghost use Rattle.instr_table.specs.Lists.{next_quad, item, one_cell};
-ghost use Rattle.instr_table.specs.Deque.{deque_quad};
-ghost use Rattle.vm_dict.specs.Calls.{added_in, set_in, deleted_in, pushed_in, put_in, popped_in, pulled_in};
+ghost use Rattle.instr_table.specs.Lists.{item};
+ghost use Rattle.vm_dict.specs.Calls.{added_in, set_in, deleted_in, new_in, pushed_in, put_in, popped_in, pulled_in};
 ghost use Rattle.vm_dict.specs.Costs.{Costs, quads_of};
 ghost use Rattle.vm_dict.specs.Dictionaries.{GetsLookedUp, AddsInFront, SetsAssigned, DeletesLeftOut, DictionariesStand, looked_up, assigned, left_out};
 ghost use Rattle.vm_dict.specs.Deques.{CountsItsValues, BeginsEmpty, PushesInFront, PutsBehind, PopsTheFirst, PullsTheLast, DequesStand};
@@ -17,14 +15,13 @@ pub fn calls_take_their_cost()
     ensures add { Costs (Op.DictPut (pos 2)) (λ m vs. quads_of (added_in m (item vs 3) (item vs 2) (item vs 1)) 1) }
     ensures set { Costs (Op.DictPut (pos 3)) (λ m vs. quads_of (set_in m (item vs 3) (item vs 2) (item vs 1)) 1) }
     ensures delete { Costs Op.DictDel (λ m vs. quads_of (deleted_in m (item vs 2) (item vs 1)) 1) }
-    ensures new { Costs Op.DequeNew (λ m vs. quads_of (one_cell (next_quad (seen m.store)) (deque_quad nil nil)) 1) }
+    ensures new { Costs Op.DequeNew (λ m vs. quads_of (new_in m) 1) }
     ensures test_deque { (n : ℤ) → Costs (Op.DequeTest n) (λ m vs. 1) }
     ensures push { Costs (Op.DequePut (pos 2)) (λ m vs. quads_of (pushed_in m (item vs 2) (item vs 1)) 1) }
     ensures put { Costs (Op.DequePut (pos 4)) (λ m vs. quads_of (put_in m (item vs 2) (item vs 1)) 1) }
     ensures pop { Costs (Op.DequeTake (pos 3)) (λ m vs. quads_of (popped_in m (item vs 1)) 2) }
     ensures pull { Costs (Op.DequeTake (pos 5)) (λ m vs. quads_of (pulled_in m (item vs 1)) 2) }
-{
-}
+{}
 
 /// A dictionary of at most 4,095 entries stands for the list of its keys and values: each call does the list's operation, and no
 /// dictionary changes when cells are taken.

@@ -1,11 +1,7 @@
-ghost use Rattle.std.specs.Prelude.{◌≡◌, ◌↔◌, ◌+◌, ◌≤◌, ◌<◌, IsTrue, List};
-ghost use Rattle.cap_words.specs.Words.{W};
+ghost use Rattle.std.specs.Prelude.{◌↔◌, ◌+◌, ◌≤◌, ◌<◌, IsTrue};
 ghost use Rattle.cap_words.specs.Store.{used};
-ghost use Rattle.cap_words.specs.Seen.{seen};
-ghost use Rattle.instr_table.specs.Event.{Own, Effects};
-ghost use Rattle.instr_table.specs.Sheet.{Account};
-ghost use Rattle.instr_table.specs.Row.{row};
-ghost use Rattle.vm_dict.specs.Operands.{is_list_op, AreOperands};
+ghost use Rattle.instr_table.specs.Outcome.{charge};
+ghost use Rattle.vm_dict.specs.Operands.{is_list_op, IsCost};
 
 use super::*;
 use cap_words::{Quad, Word};
@@ -45,7 +41,7 @@ fn has_room(quads: &Quads, n: u32) -> bool
 fn charged(rt: &impl Abort, quads: &Quads, op: Op, list: Word, key: Word, want: u32) -> u32
     requires { IsTrue (is_list_op op) }
     ensures room { used quads.now.store + result ≤ quads.now.room }
-    ensures cost { (own : Own) → (sheet : List Account) → (e : Effects) → (vs : List W) → (k : W) → AreOperands op vs list key → result ≡ (row own op (seen quads.now.store) sheet e vs k).charge.quads }
+    ensures cost { IsCost op quads.now list key (charge result 0) }
 {
     let charge = cost(quads, op, list, key);
     assert_eq!(rt; (charge.quads, charge.events), (want, 0));
