@@ -1,0 +1,10 @@
+use Rattle.std.proofs.Common.{arith}
+use Rattle.cap_words.specs.Seen.{seen}
+use Rattle.vm_dict.proofs.Copies.{length-del, length-del_none}
+use Rattle.vm_dict.proofs.charges.del_cost.Goals as goal
+
+pub returns-in-Some : goal.returns-in-Some
+returns-in-Some c = λ n. let l = length-del (seen c.args.quads.now.store) n c.args.dict c.args.key c.in-Some.f c.in-Some.ensures.found in omega arith
+
+pub returns-in-None : goal.returns-in-None
+returns-in-None c = λ n. let l = length-del_none (seen c.args.quads.now.store) n c.args.dict c.args.key c.in-None.ensures.found in omega arith
