@@ -9,3 +9,4 @@ pub mod GotWords
 pub mod KnownWords
 pub mod Authorities
 pub mod ShownWords
+pub mod Makings

@@ -15,3 +15,4 @@ pub mod Lane
 pub mod Reach
 pub mod Laws
 pub mod Authority
+pub mod Making

@@ -2,6 +2,7 @@
 
 ghost use Rattle.instr_table.specs.Laws.{ChargesAsListed, TakesWhatItCharges, AssignsToOwn, HandsOnWhatItHas, ShownStays, ChangesKeepShown};
 ghost use Rattle.instr_table.specs.Authority.{EachKeepsAuthority};
+ghost use Rattle.instr_table.specs.Making.{MakesWhatItNames};
 
 /// Each row charges what `op_charge` says of its operation, where that says something.
 pub fn charges_as_listed()
@@ -38,4 +39,11 @@ pub fn shown_stays()
 /// What a word shows, it shows after a quad was changed into one with the same words, where it is readable, and of the same kind.
 pub fn changes_keep_shown()
     ensures { ChangesKeepShown }
+{}
+
+/// What an instruction makes it makes for what it does: a message is one new quad, and so are a signal and a created actor; a sponsor is two.
+/// Each is under the word that the row gives it, that of the quad taken next. All else that is made are readable cells: pairs, entries of
+/// dictionaries, deques, and cells of the types that `quad` makes. So no instruction ever stands in RAM.
+pub fn makes_what_it_names()
+    ensures { MakesWhatItNames }
 {}

@@ -229,4 +229,5 @@ fn laws_have_no_body(_rt: HostRuntime) {
     keeps_authority();
     shown_stays();
     changes_keep_shown();
+    makes_what_it_names();
 }
