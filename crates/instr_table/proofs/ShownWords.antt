@@ -1,10 +1,10 @@
 -- What a word shows, it shows from then on.
-use Rattle.std.proofs.Common.{◌≡◌, ℕ, List, ◌++◌, Option, Some, None, option_map, refl, ◌∙◌, ap, subst, sym, drop, inl, inr, slice_get, slice_set}
+use Rattle.std.proofs.Common.{◌≡◌, ℕ, List, ◌++◌, Option, Some, None, option_map, refl, ◌↔◌, ◌∙◌, ap, subst, sym, drop, inl, inr, slice_get, slice_set}
 use Rattle.std.proofs.lemmas.Bool.{cases_eq}
 use Rattle.std.proofs.lemmas.Option.{slice_get_within}
 use Rattle.cap_words.specs.declared.word.Quad.{Quad}
 use Rattle.cap_words.specs.Words.{W, Fix, Rom, Ram, Cap}
-use Rattle.cap_words.specs.Seen.{Seen, Slot, open_in, grown, altered}
+use Rattle.cap_words.specs.Seen.{Seen, Slot, OpenSlot, ActorSlot, UnbornSlot, EventSlot, SponsorSlot, SpentSlot, cell_seen, open_in, grown, altered}
 use Rattle.cap_words.proofs.Places.{get-left, get-set_same, get-set_other}
 use Rattle.instr_table.specs.Types.{Shown, Readable, opaque_in, look_up, Grows}
 use Rattle.instr_table.specs.Outcome.{Going}
@@ -60,3 +60,35 @@ changes-keep s n a b h same = grows s.rom s.slots (slice_set s.slots n b) keeps
           let g : slice_get (slice_set s.slots n b) k ≡ Some slot = get-set_other s.slots n k b p ∙ e in
           (ap open_in g, ap opaque_in g)
     ]
+
+-- ---- a word shows a cell's words exactly where it is read
+
+mapped-is : (o : Option Quad) (q : Quad) → option_map Readable o ≡ Some (Readable q) → o ≡ Some q
+mapped-is None q h = cc
+mapped-is (Some p) q h = cc
+
+opaque-unread : (o : Option Slot) (q : Quad) → opaque_in o ≡ Some (Readable q) → ⊥
+opaque-unread None q h = cc
+opaque-unread (Some (OpenSlot p)) q h = cc
+opaque-unread (Some (ActorSlot a b c)) q h = cc
+opaque-unread (Some UnbornSlot) q h = cc
+opaque-unread (Some (EventSlot a b c)) q h = cc
+opaque-unread (Some SponsorSlot) q h = cc
+opaque-unread (Some SpentSlot) q h = cc
+
+pub shown-read : (s : Seen) (w : W) (q : Quad) → look_up s w ≡ Some (Readable q) → cell_seen s w ≡ Some q
+unfolding look_up
+shown-read s (Fix n) q h = cc
+shown-read s (Rom n) q h = mapped-is (cell_seen s (Rom n)) q h
+shown-read s (Ram n) q h = mapped-is (cell_seen s (Ram n)) q h
+shown-read s (Cap n) q h = absurd (opaque-unread (slice_get s.slots n) q h)
+
+pub read-shown : (s : Seen) (w : W) (q : Quad) → cell_seen s w ≡ Some q → look_up s w ≡ Some (Readable q)
+unfolding look_up
+read-shown s (Fix n) q h = cc
+read-shown s (Rom n) q h = ap (option_map Readable) h
+read-shown s (Ram n) q h = ap (option_map Readable) h
+read-shown s (Cap n) q h = cc
+
+pub shows-cell : (s : Seen) (w : W) (q : Quad) → (look_up s w ≡ Some (Readable q)) ↔ (cell_seen s w ≡ Some q)
+shows-cell s w q = (shown-read s w q, read-shown s w q)
