@@ -28,13 +28,15 @@ pub enum Op {
     Part(i32),
     /// `nth N`, -4095 to 4095: `list -- v`, the N-th item; below 0 the tail after -N items; at 0 the list; `#?` beyond pairs. 1 quad.
     Nth(i32),
-    /// `quad N`, 1 to 4: `z .. x T -- cell`, of N words; `#?` where T is neither `#func_t` nor `#block_t` nor an own type. 2 quads.
+    /// `quad N`, 1 to 4: `z .. x T -- cell`, of N words; `#?` where T is neither `#func_t` nor `#block_t` nor an own type, which is a ROM
+    /// cell of `#type_t`, a number from 0 to 3, `#?` and `#?`. 2 quads.
     QuadMake(i32),
     /// `quad N`, -4 to -1: `q -- .. x T`, its first -N words; `#?` for each where q is not readable. -N quads.
     QuadTake(i32),
     /// `get N`, 0 to 3: `q -- v`, its word N; `#?` where q is not readable. 1 quad.
     Get(i32),
-    /// `typeq T`: `v -- truth`, whether v is of the type T. 1 quad.
+    /// `typeq T`: `v -- truth`, whether v is of the type T: a fixnum is of `#fixnum_t`, constants from 4 on and own types are of
+    /// `#type_t`, an actor's word is of `#actor_t`, a sponsor's of `#sponsor_t`, and a readable cell of its first word. 1 quad.
     Typeq(Word),
     /// `eq V`: `v -- truth`, whether v is the word V. 1 quad.
     Eq(Word),
@@ -67,27 +69,32 @@ pub enum Op {
     ActorBecome,
     /// `end abort, stop, commit` (-1, 0, 1): abort is `reason --`, and fails with it; stop fails with 21. No quads.
     End(i32),
-    /// `dict has, get` (0, 1): `dict key -- v`, whether the key is there, or its value or `#?`. 1 quad.
+    /// `dict has, get` (0, 1): `dict key -- v`, whether the key is there, or its value or `#?`. A word that is no dictionary acts as an
+    /// empty one; a list of more than 4,095 cells counts as its first 4,095. 1 quad.
     DictTest(i32),
     /// `dict add, set` (2, 3): `dict key value -- dict`. `add` puts an entry in front, 2 quads. `set` replaces the first entry with the
-    /// key and copies the i before it, i + 2 quads, or adds.
+    /// key and copies the i before it, i + 2 quads, or adds. A word that is no dictionary acts as an empty one, and stays as the
+    /// tail; a list of more than 4,095 cells counts as its first 4,095.
     DictPut(i32),
     /// `dict del`: `dict key -- dict`. Removes the first entry with the key and copies the i before it, i + 1 quads; 1 quad where there
-    /// is none.
+    /// is none. A word that is no dictionary acts as an empty one, and is left as it is; a list of more than 4,095 cells counts as its
+    /// first 4,095.
     DictDel,
     /// `deque new`: `-- deque`. 2 quads.
     DequeNew,
-    /// `deque empty, len` (1, 6): `deque -- v`, whether it is empty, or how many items it has. 1 quad.
+    /// `deque empty, len` (1, 6): `deque -- v`, whether it is empty, or how many items it has. A word that is no deque acts as an empty
+    /// one; a list of more than 4,095 cells counts as its first 4,095. 1 quad.
     DequeTest(i32),
-    /// `deque push, put` (2, 4): `deque value -- deque`, at the front, at the back. 3 quads.
+    /// `deque push, put` (2, 4): `deque value -- deque`, at the front, at the back. A word that is no deque acts as an empty one. 3 quads.
     DequePut(i32),
     /// `deque pop, pull` (3, 5): `deque -- deque value`, from the front, from the back; `#?` where it is empty. 3 quads, and 1 for each
-    /// item of the list that is turned round.
+    /// item of the list that is turned round. A word that is no deque acts as an empty one; a list of more than 4,095 cells that is
+    /// turned round counts as its first 4,095; a list turned round ends with `#nil`.
     DequeTake(i32),
     /// `sponsor new`: `-- sponsor`, 3 quads; or `-- #?` where 65,536 exist, 1 quad.
     SponsorNew,
     /// `sponsor memory, events, cycles` (1 to 3): `sponsor n -- sponsor`, grants n from the running event's sponsor. No quads. Fault 20
-    /// where n is no number from 0 to what is held, 19 where the sponsor is none.
+    /// where n is no number from 0 to what is held, looked at after this instruction is paid; 19 where the sponsor is none.
     SponsorGrant(i32),
     /// `sponsor reclaim`: `sponsor -- sponsor`, all that it holds goes to the running event's sponsor. No quads. Fault 19 where it is
     /// none.
@@ -95,7 +102,8 @@ pub enum Op {
     /// `sponsor start`: `sponsor controller --`, with a signal to the controller under the running event's sponsor. 1 quad and 1 event.
     /// Fault 3 where the controller is no actor, 19 where the sponsor is none, 22 where it is running.
     SponsorStart,
-    /// `sponsor stop`: `sponsor -- sponsor`, stops it and drops its signal. No quads. Fault 19 where it is none.
+    /// `sponsor stop`: `sponsor -- sponsor`, stops it and drops its signal; nothing changes where it is stopped. No quads. Fault 19 where
+    /// it is none.
     SponsorStop,
     /// `assert V`: `v --`. No quads. Fault 17 where v is not V.
     Assert(Word),
