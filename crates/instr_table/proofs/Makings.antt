@@ -1,28 +1,29 @@
 -- What an instruction makes is what its effect names, and else cells of ordinary types.
-use Rattle.std.proofs.Common.{◌≡◌, ℕ, suc, pos, Bool, true, false, ◌||◌, List, [], ◌∷◌, length, reverse, Option, Some, None, refl, if◌then◌else◌, unsigned_abs, nat_lt, IsTrue, subst}
+use Rattle.std.proofs.Common.{◌≡◌, ℕ, zero, suc, pos, Bool, true, false, ◌||◌, List, [], ◌∷◌, length, reverse, Option, Some, None, refl, ap, sym, drop, slice_get, if◌then◌else◌, unsigned_abs, nat_lt, IsTrue, subst}
 use Rattle.std.specs.Ordering.{int_eq}
 use Rattle.std.proofs.lemmas.Bool.{or_right}
 use Rattle.cap_words.specs.declared.word.Quad.{Quad}
 use Rattle.cap_words.specs.Words.{W, Ram, same_word, number_of, undef, nil, instr_t, pair_t, dict_t, deque_t}
-use Rattle.cap_words.specs.Seen.{Seen, Slot, OpenSlot, cell_seen}
+use Rattle.cap_words.specs.Seen.{Seen, Slot, OpenSlot, ActorSlot, UnbornSlot, EventSlot, SponsorSlot, SpentSlot, cell_seen, open_in, grown}
 use Rattle.cap_words.proofs.Same.{word_same}
 use Rattle.instr_table.specs.declared.charge.Quota.{Quota}
 use Rattle.instr_table.specs.declared.op.Op.{Op}
 use Rattle.instr_table.specs.declared.op.Op.TheVariants.{Push, Dup, Drop, Pick, Roll, Depth, Pair, Part, Nth, QuadMake, QuadTake, Get, Typeq, Eq, Cmp, AluNot, Alu, If, Jump, Msg, State, My, ActorSend, ActorPost, ActorCreate, ActorAssign, ActorBecome, End, DictTest, DictPut, DictDel, DequeNew, DequeTest, DequePut, DequeTake, SponsorNew, SponsorGrant, SponsorReclaim, SponsorStart, SponsorStop, Assert, Debug}
-use Rattle.instr_table.specs.Code.{operation, by_number}
+use Rattle.instr_table.specs.Code.{operation, by_number, with_next, fetched_in, fetched}
 use Rattle.instr_table.specs.Types.{is_actor, is_sponsor, is_makeable}
 use Rattle.instr_table.specs.Lists.{next_quad, item, linked, one_cell, Built, pair_quad, pair_in, items}
 use Rattle.instr_table.specs.Dictionary.{entries, first_with, before, copy, entry_quad, set_at, del_at, dict_set, dict_del}
 use Rattle.instr_table.specs.Deque.{ends, deque_quad, deque_after, pushed_front, pushed_back, turned_on, taken_from, taking}
-use Rattle.instr_table.specs.Event.{Own, Effects, Behaviour, has_created}
+use Rattle.instr_table.specs.Event.{Own, Effects, Behaviour, Effect, Nothing, Sends, Creates, Assigns, Becomes, Sponsors, Grants, Reclaims, Starts, Stops, has_created}
 use Rattle.instr_table.specs.Sheet.{Account, runs}
-use Rattle.instr_table.specs.Outcome.{Row, charge, goes, gives}
+use Rattle.instr_table.specs.Outcome.{Going, Goes, Row, charge, goes, gives}
 use Rattle.instr_table.specs.ActorRows.{become_row}
 use Rattle.instr_table.specs.SponsorRows.{grant_of, most_sponsors}
 use Rattle.instr_table.specs.Row.{row, row_at, item_of, quad_row}
+use Rattle.instr_table.specs.Lane.{Item, Lane, values, top_at, push_one, push_all, after_going, lane_row}
 use Rattle.instr_table.specs.Reach.{Every}
-use Rattle.instr_table.specs.Making.{is_ordinary, IsOrdinaryCell, MakesNamed}
-use Rattle.instr_table.proofs.GotWords.{every-append}
+use Rattle.instr_table.specs.Making.{is_ordinary, IsOrdinaryCell, MadeWith, MakesNamed, NoCodeInRam}
+use Rattle.instr_table.proofs.GotWords.{every-append, every-map}
 
 -- a cell of such a type is no instruction
 pub ordinary-spells_nothing : (s : Seen) (q : Quad) → IsOrdinaryCell s (OpenSlot q) → operation q ≡ None
@@ -161,3 +162,52 @@ module _ (own : Own) (s : Seen) (sheet : List Account) (e : Effects) (vs : List 
 pub row_at-makes : (own : Own) (o : Option (Op × W)) (s : Seen) (sheet : List Account) (e : Effects) (vs : List W) → MakesNamed own.sponsor (item vs 1) s (row_at own o s sheet e vs).outcome
 row_at-makes own None s sheet e vs = tt
 row_at-makes own (Some o) s sheet e vs = row-makes own s sheet e vs o.1 o.0
+
+-- ---- code stays out of RAM
+
+-- a quad that spells nothing
+abbrev IsNoCode : Slot → Type 0
+IsNoCode slot = fetched_in (open_in (Some slot)) ≡ None
+
+to-every : (xs : List Slot) → ((n : ℕ) → fetched_in (open_in (slice_get xs n)) ≡ None) → Every IsNoCode xs
+to-every [] h = tt
+to-every (x ∷ xs) h = (h zero, to-every xs (λ n. h (suc n)))
+
+from-every : (xs : List Slot) → Every IsNoCode xs → (n : ℕ) → fetched_in (open_in (slice_get xs n)) ≡ None
+from-every [] e n = refl
+from-every (x ∷ xs) e zero = e.0
+from-every (x ∷ xs) e (suc n) = from-every xs e.1 n
+
+pushed-no_code : (p : Seen × List Item) (vs : List W) → Every IsNoCode p.0.slots → Every IsNoCode (push_all p vs).0.slots
+pushed-no_code p [] h = h
+pushed-no_code p (v ∷ vs) h = pushed-no_code (push_one p v) vs (every-append IsNoCode p.0.slots (OpenSlot (pair_quad v (top_at p.1)) ∷ []) h (refl, tt))
+
+module _ (payer controller : W) (s : Seen) (made : List Slot) where
+  ordinary-no_code : (slot : Slot) → IsOrdinaryCell s slot → IsNoCode slot
+  ordinary-no_code (OpenSlot q) h = ap (λ (o : Option Op). with_next o q.z) (ordinary-spells_nothing s q h)
+  ordinary-no_code (ActorSlot a b c) h = absurd h
+  ordinary-no_code UnbornSlot h = absurd h
+  ordinary-no_code (EventSlot a b c) h = absurd h
+  ordinary-no_code SponsorSlot h = absurd h
+  ordinary-no_code SpentSlot h = absurd h
+
+  cells-no_code : Every (IsOrdinaryCell s) made → Every IsNoCode made
+  cells-no_code h = every-map (IsOrdinaryCell s) IsNoCode made ordinary-no_code h
+
+  made-no_code : (e : Effect) → MadeWith payer controller s made e → Every IsNoCode made
+  made-no_code Nothing h = cells-no_code h
+  made-no_code (Sends m) h = subst (Every IsNoCode) (sym h.1) (refl, tt)
+  made-no_code (Creates m) h = subst (Every IsNoCode) (sym h.1) (refl, tt)
+  made-no_code (Assigns m) h = cells-no_code h
+  made-no_code (Becomes b) h = cells-no_code h
+  made-no_code (Sponsors w) h = subst (Every IsNoCode) (sym h.1) (refl, (refl, tt))
+  made-no_code (Grants w kind n) h = cells-no_code h
+  made-no_code (Reclaims w) h = cells-no_code h
+  made-no_code (Starts w signal) h = subst (Every IsNoCode) (sym h.1) (refl, tt)
+  made-no_code (Stops w) h = cells-no_code h
+
+pub keeps-code_out : (s : Seen) (sheet : List Account) (l : Lane) (g : Going) → (lane_row s sheet l).outcome ≡ Goes g → NoCodeInRam s → NoCodeInRam (after_going s l.stack g).0
+keeps-code_out s sheet l g e h =
+    let controller : W = item (values l.stack) 1 in
+    let m = subst (MakesNamed l.own.sponsor controller s) e (row_at-makes l.own (fetched s l.code) s sheet l.effects (values l.stack)) in
+    from-every (after_going s l.stack g).0.slots (pushed-no_code (grown s g.made, drop g.pops l.stack) g.pushed (every-append IsNoCode s.slots g.made (to-every s.slots h) (made-no_code l.own.sponsor controller s g.made g.effect m)))

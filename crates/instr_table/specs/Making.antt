@@ -1,14 +1,16 @@
 -- What an instruction makes, by what it does beside: a new actor, sponsor, message or signal is the quad that is taken next.
-use Rattle.std.specs.Prelude.{◌≡◌, Bool, ◌||◌, IsTrue, List, [], ◌∷◌, Option}
-use Rattle.cap_words.specs.Words.{W, Cap, same_word, undef, pair_t, dict_t, deque_t}
+use Rattle.std.specs.Prelude.{◌≡◌, ℕ, Bool, ◌||◌, IsTrue, List, [], ◌∷◌, Option, None}
+use Rattle.cap_words.specs.Words.{W, Ram, Cap, same_word, undef, pair_t, dict_t, deque_t}
 use Rattle.cap_words.specs.Seen.{Seen, Slot, OpenSlot, ActorSlot, UnbornSlot, EventSlot, SponsorSlot, SpentSlot}
 use Rattle.instr_table.specs.declared.op.Op.{Op}
+use Rattle.instr_table.specs.Code.{fetched}
 use Rattle.instr_table.specs.Types.{is_makeable}
 use Rattle.instr_table.specs.Lists.{next_quad, item}
 use Rattle.instr_table.specs.Event.{Own, Effects, Effect, Nothing, Sends, Creates, Assigns, Becomes, Sponsors, Grants, Reclaims, Starts, Stops}
 use Rattle.instr_table.specs.Sheet.{Account}
-use Rattle.instr_table.specs.Outcome.{Outcome, Goes, Faults, Commits}
+use Rattle.instr_table.specs.Outcome.{Going, Outcome, Goes, Faults, Commits}
 use Rattle.instr_table.specs.Row.{row_at}
+use Rattle.instr_table.specs.Lane.{Lane, after_going, lane_row}
 use Rattle.instr_table.specs.Reach.{Every}
 
 -- the types of the cells that a program makes: pairs, entries, deques, and what `quad` makes
@@ -47,3 +49,13 @@ MakesNamed payer controller s Commits = Unit {0}
 -- for every row, that of a bad instruction included; a controller is the item on top
 abbrev pub MakesWhatItNames : Type 0
 MakesWhatItNames = (own : Own) (o : Option (Op × W)) (s : Seen) (sheet : List Account) (e : Effects) (vs : List W) → MakesNamed own.sponsor (item vs 1) s (row_at own o s sheet e vs).outcome
+
+-- ---- code stands in the image alone
+
+-- no RAM cell spells an operation
+abbrev pub NoCodeInRam : Seen → Type 0
+NoCodeInRam s = (n : ℕ) → fetched s (Ram n) ≡ None
+
+-- so it stays after each instruction
+abbrev pub KeepsCodeOut : Type 0
+KeepsCodeOut = (s : Seen) (sheet : List Account) (l : Lane) (g : Going) → (lane_row s sheet l).outcome ≡ Goes g → NoCodeInRam s → NoCodeInRam (after_going s l.stack g).0

@@ -2,7 +2,7 @@
 
 ghost use Rattle.instr_table.specs.Laws.{ChargesAsListed, TakesWhatItCharges, AssignsToOwn, HandsOnWhatItHas, ShownStays, ChangesKeepShown};
 ghost use Rattle.instr_table.specs.Authority.{EachKeepsAuthority};
-ghost use Rattle.instr_table.specs.Making.{MakesWhatItNames};
+ghost use Rattle.instr_table.specs.Making.{KeepsCodeOut, MakesWhatItNames};
 
 /// Each row charges what `op_charge` says of its operation, where that says something.
 pub fn charges_as_listed()
@@ -41,9 +41,14 @@ pub fn changes_keep_shown()
     ensures { ChangesKeepShown }
 {}
 
-/// What an instruction makes it makes for what it does: a message is one new quad, and so are a signal and a created actor; a sponsor is two.
-/// Each is under the word that the row gives it, that of the quad taken next. All else that is made are readable cells: pairs, entries of
-/// dictionaries, deques, and cells of the types that `quad` makes. So no instruction ever stands in RAM.
+/// What an instruction makes goes by what it does. A message, a signal and a created actor are one new quad each, a sponsor is two, and the
+/// word that the row gives it is that of the quad taken next. Whatever else it makes is a readable cell: a pair, an entry of a dictionary, a
+/// deque, or a cell of a type that `quad` makes.
 pub fn makes_what_it_names()
     ensures { MakesWhatItNames }
+{}
+
+/// No instruction makes a RAM cell that spells an operation, on the stack or elsewhere: where none stood in RAM, none stands there after it.
+pub fn keeps_code_out_of_ram()
+    ensures { KeepsCodeOut }
 {}

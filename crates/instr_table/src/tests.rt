@@ -230,4 +230,5 @@ fn laws_have_no_body(_rt: HostRuntime) {
     shown_stays();
     changes_keep_shown();
     makes_what_it_names();
+    keeps_code_out_of_ram();
 }
