@@ -1,0 +1,6 @@
+pub mod State
+pub mod Boot
+pub mod Actors
+pub mod Piece
+pub mod Turn
+pub mod Run

@@ -1,0 +1,10 @@
+//! The machine's state and its turn, as definitions that compute.
+//!
+//! `specs/` defines the state that an image boots to, what a device writes for a message, one turn of the machine, and runs of turns.
+//! The types of the journal and of a turn's answer stand here, since the definitions and the machine share them: `Entry`, `Outcome` and
+//! `Turn`.
+#![tactic(auto)]
+
+mod journal;
+
+pub use journal::{Entry, Outcome, Turn};
