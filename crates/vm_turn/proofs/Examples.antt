@@ -1,0 +1,173 @@
+-- Worked runs of small images.
+use Rattle.std.proofs.Common.{◌≡◌, ℕ, suc, pos, negsuc, List, [], ◌∷◌, ◌++◌, replicate, Some, None, refl}
+use Rattle.std.specs.Prelude.{map, codes}
+use Rattle.std.specs.Fmt.{digits}
+use Rattle.std.proofs.Math.Utf8.{encode}
+use Rattle.cap_words.specs.declared.word.Quad.{Quad}
+use Rattle.cap_words.specs.Words.{Fix, Rom, Ram, Cap, undef, nil, actor_t, symbol_t}
+use Rattle.cap_words.specs.Seen.{Seen}
+use Rattle.instr_table.specs.declared.charge.Quota.TheVariants.{Cycles}
+use Rattle.instr_table.specs.declared.op.Op.{Op}
+use Rattle.instr_table.specs.declared.op.Op.TheVariants.{Push, Dup, Roll, Msg, State, My, QuadMake, Get, ActorSend, ActorPost, ActorCreate, ActorBecome, End, SponsorNew, SponsorGrant, SponsorStart, Debug}
+use Rattle.instr_table.specs.Types.{look_up}
+use Rattle.instr_table.specs.Lists.{pair_quad}
+use Rattle.instr_table.specs.Spelling.{spelled}
+use Rattle.instr_table.specs.Sheet.{Amount, Account, Running, Stopped, account}
+use Rattle.instr_table.specs.Lane.{Lane}
+use Rattle.vm_turn.specs.declared.journal.Entry.{Entry}
+use Rattle.vm_turn.specs.declared.journal.Outcome.TheVariants.{Committed, Failed, RanOut}
+use Rattle.vm_turn.specs.declared.journal.Turn.TheVariants.{Dispatched, Finished, Rest, Spent}
+use Rattle.vm_turn.specs.State.{State as Machine}
+use Rattle.vm_turn.specs.Boot.{Image, Grant, booted}
+use Rattle.vm_turn.specs.Piece.{tree_to, piece}
+use Rattle.vm_turn.specs.Turn.{entry}
+use Rattle.vm_turn.specs.Run.{after, run, answers, completed, picks}
+
+-- an image that begins with its first cell
+abbrev image : List Quad → Image
+image cells = record { boot = Rom 16; cells = cells }
+
+abbrev grant : ℕ → ℕ → ℕ → Grant
+grant memory events cycles = record { memory = memory; events = events; cycles = cycles }
+
+abbrev zeros : ℕ → List ℕ
+zeros n = replicate n 0
+
+-- ---- one instruction
+
+abbrev one : Image
+one = image (spelled (End (pos 1)) undef ∷ [])
+
+commits : answers (booted one (grant 10 10 10) 1) (zeros 3) ≡ Dispatched ∷ Finished (entry 0 Committed) ∷ Rest ∷ []
+commits = refl
+
+-- with no cycle the root runs out, and stays so
+runs_out : answers (booted one (grant 10 10 0) 1) (zeros 3) ≡ Dispatched ∷ Spent (Cap 0) Cycles ∷ Spent (Cap 0) Cycles ∷ []
+runs_out = refl
+
+runs_out_once : (run one (grant 10 10 0) 1 (zeros 3)).journal ≡ entry 0 (RanOut Cycles) ∷ []
+runs_out_once = refl
+
+-- a boot word that names a pair
+fails : answers (booted (image (pair_quad nil nil ∷ [])) (grant 10 10 10) 1) (zeros 3) ≡ Dispatched ∷ Finished (entry 0 (Failed (Fix (pos 16)))) ∷ Rest ∷ []
+fails = refl
+
+-- ---- devices
+
+abbrev at_boot : Machine
+at_boot = booted one (grant 10 10 10) 1
+
+refuses_a_number : piece 1 at_boot.store (Fix (pos 5)) ≡ None
+unfolding piece tree_to look_up
+refuses_a_number = refl
+
+prints_a_number : piece 0 at_boot.store (Fix (negsuc 41)) ≡ Some (45 ∷ 52 ∷ 50 ∷ 10 ∷ [])
+unfolding piece tree_to look_up digits
+prints_a_number = refl
+
+prints_a_list : piece 0 at_boot.store (Ram 5) ≡ Some (codes "(@, @, NIL)" ++ 10 ∷ [])
+unfolding piece tree_to look_up
+prints_a_list = refl
+
+-- a pair that is its own tail is no finite tree
+refuses_a_loop : piece 0 (record { rom = pair_quad nil (Rom 16) ∷ []; slots = [] }) (Rom 16) ≡ None
+unfolding piece tree_to look_up
+refuses_a_loop = refl
+
+abbrev letters : Seen
+letters = record { rom = pair_quad (Fix (pos 104)) (Rom 17) ∷ pair_quad (Fix (pos 228)) nil ∷ record { t = symbol_t; x = Rom 16; y = undef; z = undef } ∷ record { t = symbol_t; x = Rom 20; y = undef; z = undef } ∷ pair_quad (Fix (pos 104)) nil ∷ []; slots = [] }
+
+says_in_utf8 : piece 1 letters (Rom 16) ≡ Some (104 ∷ 195 ∷ 164 ∷ 10 ∷ [])
+unfolding piece tree_to look_up encode
+says_in_utf8 = refl
+
+-- a name has visible bytes alone
+prints_symbols : piece 0 letters (Rom 18) ≡ Some (codes "^" ++ 10 ∷ [])
+unfolding piece tree_to look_up
+prints_symbols = refl
+
+prints_a_symbol : piece 0 letters (Rom 19) ≡ Some (codes "#h" ++ 10 ∷ [])
+unfolding piece tree_to look_up
+prints_a_symbol = refl
+
+-- ---- what is told of a run: the output, the journal, and what the root has spent
+
+record Told : Type 0 where
+  output : List ℕ
+  journal : List Entry
+  memory : ℕ
+  events : ℕ
+  cycles : ℕ
+
+abbrev told_by : Account → Machine → Told
+told_by a s = record { output = s.output; journal = s.journal; memory = a.memory.spent; events = a.events.spent; cycles = a.cycles.spent }
+
+abbrev told : Machine → Told
+told s = told_by (account s.sheet (Cap 0)) s
+
+abbrev tells : List ℕ → List Entry → ℕ → ℕ → ℕ → Told
+tells output journal memory events cycles = record { output = output; journal = journal; memory = memory; events = events; cycles = cycles }
+
+-- instructions from the first cell on, each naming the one after it
+abbrev listing_from : ℕ → List Op → List Quad
+listing_from k [] = []
+listing_from k (op ∷ ops) = spelled op (Rom (suc k)) ∷ listing_from (suc k) ops
+
+abbrev listing : List Op → Image
+listing ops = image (listing_from 16 ops)
+
+abbrev p : ℕ → Op
+p k = Push (Fix (pos k))
+
+-- ---- words cannot be made out of numbers
+
+abbrev looks_inside : Machine
+looks_inside = run (listing (p 5 ∷ Get (pos 0) ∷ State (pos 1) ∷ ActorSend ∷ End (pos 1) ∷ [])) (grant 100 10 100) 1 (zeros 8)
+
+writes_no_word : told looks_inside ≡ tells (codes "?" ++ 10 ∷ []) (entry 0 Committed ∷ entry 1 Committed ∷ []) 4 1 5
+unfolding piece tree_to look_up
+writes_no_word = refl
+
+abbrev makes_an_actor : Machine
+makes_an_actor = run (listing (p 5 ∷ Push actor_t ∷ QuadMake (pos 2) ∷ State (pos 1) ∷ ActorSend ∷ End (pos 1) ∷ [])) (grant 100 10 100) 1 (zeros 9)
+
+writes_no_actor : told makes_an_actor ≡ tells (codes "?" ++ 10 ∷ []) (entry 0 Committed ∷ entry 1 Committed ∷ []) 6 1 6
+unfolding piece tree_to look_up
+writes_no_actor = refl
+
+-- a created actor whose code is a device's number is no device
+abbrev poses_as_a_device : Machine
+poses_as_a_device = run (listing (p 7 ∷ Push nil ∷ p 0 ∷ ActorCreate ∷ ActorSend ∷ End (pos 1) ∷ [])) (grant 100 10 100) 1 (zeros 10)
+
+writes_nothing : told poses_as_a_device ≡ tells [] (entry 0 Committed ∷ entry 1 (Failed (Fix (pos 16))) ∷ []) 6 1 7
+unfolding piece tree_to look_up
+writes_nothing = refl
+
+-- ---- what was gathered is dropped
+
+abbrev runs_out_before_the_end : Machine
+runs_out_before_the_end = run (listing (Push nil ∷ Push (Rom 16) ∷ ActorCreate ∷ End (pos 1) ∷ [])) (grant 100 10 3) 1 (zeros 7)
+
+creates_no_actor : told runs_out_before_the_end ≡ tells [] (entry 0 (RanOut Cycles) ∷ []) 4 0 3
+unfolding look_up
+creates_no_actor = refl
+
+keeps_the_roll : runs_out_before_the_end.roll ≡ Cap 6 ∷ Cap 2 ∷ Cap 3 ∷ []
+unfolding look_up
+keeps_the_roll = refl
+
+abbrev aborts : Machine
+aborts = run (listing (p 1 ∷ My (pos 0) ∷ ActorSend ∷ p 9 ∷ End (negsuc 0) ∷ [])) (grant 100 10 100) 1 (zeros 8)
+
+fails_with_nine : told aborts ≡ tells [] (entry 0 (Failed (Fix (pos 9))) ∷ []) 4 1 5
+unfolding look_up
+fails_with_nine = refl
+
+sends_no_message : aborts.messages ≡ []
+unfolding look_up
+sends_no_message = refl
+
+-- ---- picks
+
+first_picks : picks 0 3 ≡ 15470 ∷ 18256 ∷ 53708 ∷ []
+first_picks = refl
