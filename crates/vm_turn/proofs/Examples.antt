@@ -1,5 +1,5 @@
 -- Worked runs of small images.
-use Rattle.std.proofs.Common.{◌≡◌, ℕ, suc, pos, negsuc, List, [], ◌∷◌, ◌++◌, replicate, Some, None, refl}
+use Rattle.std.proofs.Common.{◌≡◌, ℕ, suc, pos, negsuc, List, [], ◌∷◌, ◌++◌, replicate, Some, None, refl, ◌∙◌}
 use Rattle.std.specs.Prelude.{map, codes}
 use Rattle.std.specs.Fmt.{digits}
 use Rattle.std.proofs.Math.Utf8.{encode}
@@ -16,11 +16,12 @@ use Rattle.instr_table.specs.Sheet.{Amount, Account, Running, Stopped, account}
 use Rattle.instr_table.specs.Lane.{Lane}
 use Rattle.vm_turn.specs.declared.journal.Entry.{Entry}
 use Rattle.vm_turn.specs.declared.journal.Outcome.TheVariants.{Committed, Failed, RanOut}
-use Rattle.vm_turn.specs.declared.journal.Turn.TheVariants.{Dispatched, Finished, Rest, Spent}
+use Rattle.vm_turn.specs.declared.journal.Turn.{Turn as Answer}
+use Rattle.vm_turn.specs.declared.journal.Turn.TheVariants.{Dispatched, Stepped, Finished, Rest, Spent}
 use Rattle.vm_turn.specs.State.{State as Machine}
 use Rattle.vm_turn.specs.Boot.{Image, Grant, booted}
 use Rattle.vm_turn.specs.Piece.{tree_to, piece}
-use Rattle.vm_turn.specs.Turn.{entry}
+use Rattle.vm_turn.specs.Turn.{entry, turn}
 use Rattle.vm_turn.specs.Run.{after, run, answers, completed, picks}
 
 -- an image that begins with its first cell
@@ -166,6 +167,124 @@ fails_with_nine = refl
 sends_no_message : aborts.messages ≡ []
 unfolding look_up
 sends_no_message = refl
+
+-- ---- longer runs
+
+-- what follows an answer, once that is looked at
+abbrev once_told : Answer → (Unit {0} → Machine) → Machine
+once_told Dispatched next = next tt
+once_told Stepped next = next tt
+once_told (Finished e) next = next tt
+once_told Rest next = next tt
+once_told (Spent sponsor kind) next = next tt
+
+-- the state after turns with these picks, each of which is taken before the next one
+unfoldable watched : Machine → List ℕ → Machine
+watched s [] = s
+watched s (p ∷ ps) = once_told (turn s p).1 (λ u. watched (turn s p).0 ps)
+
+once_told-is : (a : Answer) (next : Unit {0} → Machine) → once_told a next ≡ next tt
+once_told-is Dispatched next = refl
+once_told-is Stepped next = refl
+once_told-is (Finished e) next = refl
+once_told-is Rest next = refl
+once_told-is (Spent sponsor kind) next = refl
+
+watched-is : (s : Machine) (ps : List ℕ) → watched s ps ≡ after s ps
+unfolding watched
+watched-is s [] = refl
+watched-is s (p ∷ ps) = once_told-is (turn s p).1 (λ u. watched (turn s p).0 ps) ∙ watched-is (turn s p).0 ps
+
+-- ---- a sponsor that runs out, and its controller
+
+abbrev spin : Image
+spin = image (
+    spelled SponsorNew (Rom 17) ∷
+    spelled (p 1000) (Rom 18) ∷
+    spelled (SponsorGrant (pos 1)) (Rom 19) ∷
+    spelled (p 50) (Rom 20) ∷
+    spelled (SponsorGrant (pos 3)) (Rom 21) ∷
+    spelled (Dup (pos 1)) (Rom 22) ∷
+    spelled (My (pos 0)) (Rom 23) ∷
+    spelled SponsorStart (Rom 24) ∷
+    spelled (p 0) (Rom 25) ∷
+    spelled (Roll (negsuc 1)) (Rom 26) ∷
+    spelled (Push nil) (Rom 27) ∷
+    spelled (Push (Rom 39)) (Rom 28) ∷
+    spelled ActorCreate (Rom 29) ∷
+    spelled (Roll (pos 2)) (Rom 30) ∷
+    spelled ActorPost (Rom 31) ∷
+    spelled (My (pos 2)) (Rom 32) ∷
+    spelled (Push (Rom 35)) (Rom 33) ∷
+    spelled ActorBecome (Rom 34) ∷
+    spelled (End (pos 1)) undef ∷
+    spelled (Msg (pos 0)) (Rom 36) ∷
+    spelled (State (pos 1)) (Rom 37) ∷
+    spelled ActorSend (Rom 38) ∷
+    spelled (End (pos 1)) undef ∷
+    spelled Debug (Rom 39) ∷ [])
+
+abbrev spin_start : Machine
+spin_start = booted spin (grant 1048576 65536 16777216) 1
+
+abbrev spun : Machine
+spun = watched spin_start (zeros 80)
+
+spin-tells : told spun ≡ tells (codes "3" ++ 10 ∷ []) (entry 0 Committed ∷ entry 1 (RanOut Cycles) ∷ entry 2 Committed ∷ entry 3 Committed ∷ []) 23 3 23
+unfolding piece tree_to look_up digits watched
+spin-tells = refl
+
+spin-leaves_no_message : spun.messages ≡ []
+unfolding piece tree_to look_up watched
+spin-leaves_no_message = refl
+
+spin-turns : completed spin_start (zeros 80) ≡ 78
+unfolding piece tree_to look_up
+spin-turns = refl
+
+abbrev amount : ℕ → ℕ → ℕ → ℕ → Amount
+amount received passed spent held = record { received = received; passed = passed; spent = spent; held = held }
+
+spin-amounts : spun.sheet ≡
+    record { sponsor = Cap 0; memory = amount 1048576 1000 23 1047553; events = amount 65536 0 3 65533; cycles = amount 16777216 50 23 16777143; standing = Running None } ∷
+    record { sponsor = Cap 8; memory = amount 1000 0 0 1000; events = amount 0 0 0 0; cycles = amount 50 0 50 0; standing = Stopped } ∷ []
+unfolding piece tree_to look_up watched
+spin-amounts = refl
+
+-- ---- three lanes
+
+-- two actors are created, and each gets a number that it hands on to `println`
+abbrev two_workers : Image
+two_workers = listing (
+    State (pos 1) ∷ Push (Rom 29) ∷ ActorCreate ∷ p 7 ∷ Roll (pos 2) ∷ ActorSend ∷
+    State (pos 1) ∷ Push (Rom 29) ∷ ActorCreate ∷ p 8 ∷ Roll (pos 2) ∷ ActorSend ∷
+    End (pos 1) ∷ Msg (pos 0) ∷ My (pos 2) ∷ ActorSend ∷ End (pos 1) ∷ [])
+
+abbrev numbers : List Lane → List ℕ
+numbers ls = map (λ (l : Lane). l.number) ls
+
+abbrev both : Machine
+both = watched (booted two_workers (grant 100 10 100) 3) (zeros 16)
+
+both_in_flight : numbers both.flight ≡ 1 ∷ 2 ∷ []
+unfolding piece tree_to look_up watched
+both_in_flight = refl
+
+-- the picks 1, 3, 5 and 7 are of the second of two lanes
+abbrev second_first : Machine
+second_first = watched both (1 ∷ 3 ∷ 5 ∷ 7 ∷ zeros 7)
+
+second_ends_first : map (λ (e : Entry). e.message) second_first.journal ≡ 0 ∷ 2 ∷ 3 ∷ 1 ∷ 4 ∷ []
+unfolding piece tree_to look_up watched
+second_ends_first = refl
+
+second_writes_first : second_first.output ≡ codes "8" ++ 10 ∷ codes "7" ++ 10 ∷ []
+unfolding piece tree_to look_up digits watched
+second_writes_first = refl
+
+both_create : second_first.roll ≡ Cap 6 ∷ Cap 2 ∷ Cap 3 ∷ Cap 10 ∷ Cap 18 ∷ []
+unfolding piece tree_to look_up watched
+both_create = refl
 
 -- ---- picks
 

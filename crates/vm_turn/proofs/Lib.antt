@@ -1,2 +1,5 @@
 mod Examples
-mod Probe
+pub mod Sheets
+pub mod Grants
+pub mod Numbers
+pub mod Bound

@@ -1,0 +1,235 @@
+-- What every turn keeps, and how many turns can be completed.
+use Rattle.std.proofs.Common.{◌≡◌, ◌⊎◌, inl, inr, ℕ, zero, suc, ◌+◌, ◌*◌, ◌%◌, ◌<◌, ◌≤◌, List, [], ◌∷◌, ◌++◌, length, Option, Some, None, Bool, true, false, ap, refl, sym, ◌∙◌, subst, arith, nat_lt, nat_eq, if◌then◌else◌, length-append}
+use Rattle.std.specs.Prelude.{◌&&◌, not, map, remove, slice_get, slice_set}
+use Rattle.std.proofs.Math.Nat.{le_trans}
+use Rattle.cap_words.specs.Words.{W, same_word}
+use Rattle.cap_words.specs.Seen.{Seen}
+use Rattle.instr_table.specs.declared.charge.Quota.{Quota}
+use Rattle.instr_table.specs.Code.{fetched}
+use Rattle.instr_table.specs.Event.{Sent, Effects, no_effects, Effect, Nothing, Sends, Creates, Assigns, Becomes, Sponsors, Grants, Reclaims, Starts, Stops, with_effect}
+use Rattle.instr_table.specs.Sheet.{Account, account, short, spend, stop, runs, prepared, sheet_after}
+use Rattle.instr_table.specs.Outcome.{Going, Outcome, Goes, Faults, Commits, Row, events_in}
+use Rattle.instr_table.specs.Lane.{Lane, begun, values, lane_row, gone}
+use Rattle.instr_table.specs.Laws.{Covers}
+use Rattle.instr_table.proofs.Charges.{row_at-covers}
+use Rattle.vm_turn.specs.declared.journal.Outcome.{Outcome as End}
+use Rattle.vm_turn.specs.declared.journal.Outcome.TheVariants.{Committed, Failed, RanOut}
+use Rattle.vm_turn.specs.State.{Message, State, root}
+use Rattle.vm_turn.specs.Boot.{Image, Grant, booted}
+use Rattle.vm_turn.specs.Actors.{sent_at, is_idle}
+use Rattle.vm_turn.specs.Piece.{piece}
+use Rattle.vm_turn.specs.Turn.{is_in_flight, can_go, first_to_go, dispatchable, entry, without, device_of, own_of, begin, delivered, refused, deliver, dispatch, numbered_from, finish, go_on, act, released, out_by, run_out, charged, step, go, unless_spent, turn}
+use Rattle.vm_turn.specs.Run.{after, completes, completed, not_rest, unless_out}
+use Rattle.vm_turn.proofs.Sheets.{total, total-append, cycles_in, events_in as events_kept_in, cycles_spent, events_spent, signals, count, Follows, follows-refl, follows-then, spend-follows, stop-follows, effect-follows, prepares, IsHeld}
+use Rattle.vm_turn.proofs.Grants.{HeldBy, row_at-holds}
+use Rattle.vm_turn.proofs.Numbers.{numbers, Other, Apart, Has, HasAll, fewer, all-append, all-without, no_more, not_in_flight, apart-end, all-end, numbers-end, numbers-set, apart-removed, rest-other, all-removed, has-at}
+
+-- how many messages an event has sent
+abbrev pub sends : Lane → ℕ
+sends l = length l.effects.sent
+
+-- what each completed turn raises
+abbrev pub mass : State → ℕ
+mass s = total cycles_spent s.sheet + 2 * length s.journal + length s.flight
+
+-- what every turn keeps: no more is spent and held than was granted; each message ends once; each message was paid for; and the events in
+-- flight are of messages that are not finished, each of another one
+pub record Sound (c e : ℕ) (s : State) : Type 0 where
+  pub cycles : total cycles_in s.sheet ≤ c
+  pub events : total events_kept_in s.sheet ≤ e
+  pub ended : length s.journal + length s.messages ≤ s.next_number
+  pub paid_for : s.next_number + total sends s.flight + total signals s.sheet ≤ 1 + total events_spent s.sheet
+  pub apart : Apart (numbers s.flight)
+  pub pending : HasAll s.messages (numbers s.flight)
+
+-- a turn that keeps it, and raises the mass by n
+pub record Good (c e : ℕ) (s t : State) (n : ℕ) : Type 0 where
+  pub sound : Sound c e t
+  pub rises : mass s + n ≤ mass t
+
+-- ---- lists of events in flight
+
+-- a number of an event, where it is there
+abbrev at_or : (Lane → ℕ) → Option Lane → ℕ
+at_or f None = 0
+at_or f (Some l) = f l
+
+total-removed : (f : Lane → ℕ) (ls : List Lane) (i : ℕ) (l : Lane) → slice_get ls i ≡ Some l → total f (remove ls i) + f l ≡ total f ls
+total-removed f [] i l h = cc
+total-removed f (k ∷ ls) zero l h = let e : f k ≡ f l = ap (λ (o : Option Lane). at_or f o) h in omega (arith, e)
+total-removed f (k ∷ ls) (suc i) l h = let t = total-removed f ls i l h in omega (arith, t)
+
+total-set : (f : Lane → ℕ) (ls : List Lane) (i : ℕ) (l new : Lane) → slice_get ls i ≡ Some l → total f (slice_set ls i new) + f l ≡ total f ls + f new
+total-set f [] i l new h = cc
+total-set f (k ∷ ls) zero l new h = let e : f k ≡ f l = ap (λ (o : Option Lane). at_or f o) h in omega (arith, e)
+total-set f (k ∷ ls) (suc i) l new h = let t = total-set f ls i l new h in omega (arith, t)
+
+length-removed : (ls : List Lane) (i : ℕ) (l : Lane) → slice_get ls i ≡ Some l → length (remove ls i) + 1 ≡ length ls
+length-removed [] i l h = cc
+length-removed (k ∷ ls) zero l h = omega arith
+length-removed (k ∷ ls) (suc i) l h = let t = length-removed ls i l h in omega (arith, t)
+
+length-replaced : (ls : List Lane) (i : ℕ) (new : Lane) → length (slice_set ls i new) ≡ length ls
+length-replaced [] i new = refl
+length-replaced (k ∷ ls) zero new = refl
+length-replaced (k ∷ ls) (suc i) new = ap suc (length-replaced ls i new)
+
+length-numbers : (ls : List Lane) → length (numbers ls) ≡ length ls
+length-numbers [] = refl
+length-numbers (l ∷ ls) = ap suc (length-numbers ls)
+
+length-numbered : (n : ℕ) (ms : List Sent) → length (numbered_from n ms) ≡ length ms
+length-numbered n [] = refl
+length-numbered n (m ∷ ms) = ap suc (length-numbered (suc n) ms)
+
+-- ---- effects
+
+-- a message that is sent and a signal that is prepared cost an event
+sent-paid : (f : Effects) (x : Effect) → length (with_effect f x).sent + prepares x ≡ length f.sent + events_in x
+sent-paid f Nothing = refl
+sent-paid f (Sends m) = let h = length-append f.sent (m ∷ []) in omega (arith, h)
+sent-paid f (Creates m) = refl
+sent-paid f (Assigns m) = refl
+sent-paid f (Becomes b) = refl
+sent-paid f (Sponsors w) = refl
+sent-paid f (Grants w kind n) = refl
+sent-paid f (Reclaims w) = refl
+sent-paid f (Starts w signal) = refl
+sent-paid f (Stops w) = refl
+
+-- ---- the message that is dispatched
+
+record Chosen (s : State) (m : Message) : Type 0 where
+  other : Other m.number (numbers s.flight)
+  has : Has s.messages m.number
+
+first-chosen : (st : Seen) (sheet : List Account) (flight : List Lane) (ms : List Message) (m : Message) → first_to_go st sheet flight ms ≡ Some m → (is_in_flight m.number flight ≡ false) × Has ms m.number
+first-chosen st sheet flight [] m h = cc
+first-chosen st sheet flight (k ∷ ms) m h = pick (is_in_flight k.number flight) refl (is_idle st (sent_at st k.event).target) (runs sheet (sent_at st k.event).sponsor) (λ g. first-chosen st sheet flight ms m g) h
+  where
+    message_or : Option Message → ℕ
+    message_or None = 0
+    message_or (Some x) = x.number
+    later : ((is_in_flight m.number flight ≡ false) × Has ms m.number) → (is_in_flight m.number flight ≡ false) × Has (k ∷ ms) m.number
+    later g = (g.0, inr g.1)
+    pick : (a : Bool) → is_in_flight k.number flight ≡ a → (b c : Bool) → (first_to_go st sheet flight ms ≡ Some m → (is_in_flight m.number flight ≡ false) × Has ms m.number) → (if (not a && b && c) then Some k else first_to_go st sheet flight ms) ≡ Some m → (is_in_flight m.number flight ≡ false) × Has (k ∷ ms) m.number
+    pick true e b c r g = later (r g)
+    pick false e false c r g = later (r g)
+    pick false e true false r g = later (r g)
+    pick false e true true r g = let n : k.number ≡ m.number = ap message_or g in (subst (λ (x : ℕ). is_in_flight x flight ≡ false) n e, inl n)
+
+dispatchable-chosen : (s : State) (m : Message) → dispatchable s ≡ Some m → Chosen s m
+dispatchable-chosen s m h = pick (nat_lt (length s.flight) s.lanes) h
+  where
+    pick : (b : Bool) → (if b then first_to_go s.store s.sheet s.flight s.messages else None) ≡ Some m → Chosen s m
+    pick true g = let r = first-chosen s.store s.sheet s.flight s.messages m g in record { other = not_in_flight m.number s.flight r.0; has = r.1 }
+    pick false g = cc
+
+-- a bit is at most one
+bit_under : (n : ℕ) (b : Bool) → n + (if b then 1 else 0) ≤ n + 1
+bit_under n true = omega arith
+bit_under n false = omega arith
+
+-- a turn that raises the mass by one, whatever is counted of it
+at_most_one : (c e : ℕ) (s t : State) (b : Bool) → Good c e s t 1 → Good c e s t (if b then 1 else 0)
+at_most_one c e s t b g = record { sound = g.sound; rises = le_trans (bit_under (mass s) b) g.rises }
+
+module _ (c e : ℕ) (s : State) (ok : Sound c e s) where
+  still : Good c e s s 0
+  still = record { sound = ok; rises = omega arith }
+
+  -- an event begins
+  begin-good : (m : Message) (x : Sent) → Chosen s m → Good c e s (begin s m.number x) 1
+  begin-good m x h =
+      let l = begun m.number (own_of s.store x) in
+      let p = length-append s.flight (l ∷ []) in
+      let t = total-append sends s.flight (l ∷ []) in
+      let n = numbers-end s.flight l in
+      record {
+        sound = record {
+          cycles = ok.cycles;
+          events = ok.events;
+          ended = ok.ended;
+          paid_for = omega (arith, t, ok.paid_for);
+          apart = subst (λ (ks : List ℕ). Apart ks) (sym n) (apart-end m.number (numbers s.flight) ok.apart h.other);
+          pending = subst (λ (ks : List ℕ). HasAll s.messages ks) (sym n) (all-end s.messages m.number (numbers s.flight) ok.pending h.has);
+        };
+        rises = omega (arith, p);
+      }
+
+  -- a device's message ends
+  delivered-good : (m : Message) (end : End) (bytes : List ℕ) → Chosen s m → Good c e s (delivered s m.number end bytes) 1
+  delivered-good m end bytes h =
+      let j = length-append s.journal (entry m.number end ∷ []) in
+      let f = fewer s.messages m.number h.has in
+      record {
+        sound = record {
+          cycles = ok.cycles;
+          events = ok.events;
+          ended = omega (arith, j, f, ok.ended);
+          paid_for = ok.paid_for;
+          apart = ok.apart;
+          pending = all-without s.messages m.number (numbers s.flight) h.other ok.pending;
+        };
+        rises = omega (arith, j);
+      }
+
+  deliver-good : (m : Message) (bytes : Option (List ℕ)) → Chosen s m → Good c e s (deliver s m.number bytes).0 1
+  deliver-good m (Some bytes) h = delivered-good m Committed bytes h
+  deliver-good m None h = delivered-good m refused [] h
+
+  dispatch-good : (m : Message) (x : Sent) (device : Option ℕ) → Chosen s m → Good c e s (dispatch s m.number x device).0 1
+  dispatch-good m x (Some d) h = deliver-good m (piece d s.store x.content) h
+  dispatch-good m x None h = begin-good m x h
+
+  -- an event ends, over a sheet on which so much more was spent
+  finish-good : (i : ℕ) (l : Lane) (sheet : List Account) (x : Effects) (end : End) (cs es : ℕ) → slice_get s.flight i ≡ Some l → Follows s.sheet sheet cs es 0 → length x.sent ≤ sends l → Good c e s (finish s i l sheet x end) (cs + 1)
+  finish-good i l sheet x end cs es at f few =
+      let n = length-removed s.flight i l at in
+      let j = length-append s.journal (entry l.number end ∷ []) in
+      let q = length-append (without l.number s.messages) (numbered_from s.next_number x.sent) in
+      let p = length-numbered s.next_number x.sent in
+      let t = total-removed sends s.flight i l at in
+      let has = has-at s.messages s.flight i l at ok.pending in
+      let m = fewer s.messages l.number has in
+      record {
+        sound = record {
+          cycles = omega (arith, f.cycles_kept, ok.cycles);
+          events = omega (arith, f.events_kept, ok.events);
+          ended = omega (arith, j, q, p, m, ok.ended);
+          paid_for = omega (arith, t, few, ok.paid_for, f.events_more, f.signals_more);
+          apart = apart-removed s.flight i ok.apart;
+          pending = all-append (without l.number s.messages) (numbered_from s.next_number x.sent) (numbers (remove s.flight i)) (all-without s.messages l.number (numbers (remove s.flight i)) (rest-other s.flight i l at ok.apart) (all-removed s.messages s.flight i ok.pending));
+        };
+        rises = omega (arith, n, j, f.cycles_more);
+      }
+
+  -- an event goes on, over a sheet on which a cycle and its events were spent
+  go_on-good : (i : ℕ) (l : Lane) (sheet : List Account) (g : Going) (es : ℕ) → slice_get s.flight i ≡ Some l → Follows s.sheet sheet 1 es 0 → IsHeld sheet l.own.sponsor g.effect → events_in g.effect ≤ es → Good c e s (go_on s i l sheet g) 1
+  go_on-good i l sheet g es at f held few =
+      let new = gone s.store l g in
+      let x = effect-follows sheet l.own.sponsor g.effect held in
+      let n = length-replaced s.flight i new in
+      let t = total-set sends s.flight i l new at in
+      let w = sent-paid l.effects g.effect in
+      let k = numbers-set s.flight i l new at refl in
+      record {
+        sound = record {
+          cycles = omega (arith, f.cycles_kept, x.cycles_kept, ok.cycles);
+          events = omega (arith, f.events_kept, x.events_kept, ok.events);
+          ended = ok.ended;
+          paid_for = omega (arith, t, w, few, ok.paid_for, f.events_more, f.signals_more, x.events_more, x.signals_more);
+          apart = subst (λ (ks : List ℕ). Apart ks) (sym k) ok.apart;
+          pending = subst (λ (ks : List ℕ). HasAll s.messages ks) (sym k) ok.pending;
+        };
+        rises = omega (arith, n, f.cycles_more, x.cycles_more);
+      }
+
+  act-good : (i : ℕ) (l : Lane) (sheet : List Account) (o : Outcome) (es : ℕ) → slice_get s.flight i ≡ Some l → Follows s.sheet sheet 1 es 0 → HeldBy sheet l.own.sponsor o → ((g : Going) → o ≡ Goes g → events_in g.effect ≤ es) → Good c e s (act s i l sheet o).0 1
+  act-good i l sheet (Goes g) es at f held few = go_on-good i l sheet g es at f held (few g refl)
+  act-good i l sheet (Faults w) es at f held few =
+      let g = finish-good i l sheet no_effects (Failed w) 1 es at f (omega arith) in
+      record { sound = g.sound; rises = omega (arith, g.rises) }
+  act-good i l sheet Commits es at f held few =
+      let g = finish-good i l sheet l.effects Committed 1 es at f (omega arith) in
+      record { sound = g.sound; rises = omega (arith, g.rises) }
