@@ -5,6 +5,7 @@ use Rattle.std.proofs.Math.Nat.{le_trans}
 use Rattle.cap_words.specs.Words.{W, same_word}
 use Rattle.cap_words.specs.Seen.{Seen}
 use Rattle.instr_table.specs.declared.charge.Quota.{Quota}
+use Rattle.instr_table.specs.declared.charge.Charge.{Charge}
 use Rattle.instr_table.specs.Code.{fetched}
 use Rattle.instr_table.specs.Event.{Sent, Effects, no_effects, Effect, Nothing, Sends, Creates, Assigns, Becomes, Sponsors, Grants, Reclaims, Starts, Stops, with_effect}
 use Rattle.instr_table.specs.Sheet.{Account, account, short, spend, stop, runs, prepared, sheet_after}
@@ -19,7 +20,8 @@ use Rattle.vm_turn.specs.Boot.{Image, Grant, booted}
 use Rattle.vm_turn.specs.Actors.{sent_at, is_idle}
 use Rattle.vm_turn.specs.Piece.{piece}
 use Rattle.vm_turn.specs.Turn.{is_in_flight, can_go, first_to_go, dispatchable, entry, without, device_of, own_of, begin, delivered, refused, deliver, dispatch, numbered_from, finish, go_on, act, released, out_by, run_out, charged, step, go, unless_spent, turn}
-use Rattle.vm_turn.specs.Run.{after, completes, completed, not_rest, unless_out}
+use Rattle.vm_turn.specs.Laws.{TurnsEnd}
+use Rattle.vm_turn.specs.Run.{after, run, completes, completed, not_rest, unless_out}
 use Rattle.vm_turn.proofs.Sheets.{total, total-append, cycles_in, events_in as events_kept_in, cycles_spent, events_spent, signals, count, Follows, follows-refl, follows-then, spend-follows, stop-follows, effect-follows, prepares, IsHeld}
 use Rattle.vm_turn.proofs.Grants.{HeldBy, row_at-holds}
 use Rattle.vm_turn.proofs.Numbers.{numbers, Other, Apart, Has, HasAll, fewer, all-append, all-without, no_more, not_in_flight, apart-end, all-end, numbers-end, numbers-set, apart-removed, rest-other, all-removed, has-at}
@@ -134,6 +136,48 @@ bit_under n false = omega arith
 at_most_one : (c e : ℕ) (s t : State) (b : Bool) → Good c e s t 1 → Good c e s t (if b then 1 else 0)
 at_most_one c e s t b g = record { sound = g.sound; rises = le_trans (bit_under (mass s) b) g.rises }
 
+-- how many events an instruction uses
+abbrev used_by : Outcome → ℕ
+used_by (Goes g) = events_in g.effect
+used_by (Faults w) = 0
+used_by Commits = 0
+
+-- what goes on uses no more events than it is charged
+events-covered : (c : Charge) (o : Outcome) (g : Going) → o ≡ Goes g → Covers c o → events_in g.effect ≤ c.events
+events-covered c (Goes x) g is h = subst (λ (n : ℕ). n ≤ c.events) (ap used_by is) h.1
+events-covered c (Faults w) g is h = cc
+events-covered c Commits g is h = cc
+
+-- what is spent is under what is spent and held
+total-under : (f g : Account → ℕ) (rows : List Account) → ((a : Account) → f a ≤ g a) → total f rows ≤ total g rows
+total-under f g [] h = omega arith
+total-under f g (a ∷ rows) h = let k = h a in let t = total-under f g rows h in omega (arith, k, t)
+
+-- a prepared signal becomes a message
+released-good : {c e : ℕ} (o : Option W) (kind : Quota) (u : State) → Sound c e u → u.next_number + total sends u.flight + total signals u.sheet + count o ≤ 1 + total events_spent u.sheet → Good c e u (released o kind u) 0
+released-good None kind u ok left = record { sound = ok; rises = omega arith }
+released-good (Some w) kind u ok left =
+    let q = length-append u.messages (record { number = u.next_number; event = w } ∷ []) in
+    record {
+      sound = record {
+        cycles = ok.cycles;
+        events = ok.events;
+        ended = omega (arith, q, ok.ended);
+        paid_for = omega (arith, left);
+        apart = ok.apart;
+        pending = all-append u.messages _ (numbers u.flight) ok.pending;
+      };
+      rises = omega arith;
+    }
+
+-- that the root ran out is noted
+out-good : {c e : ℕ} {s : State} (b : Bool) (kind : Quota) (u : State) → Good c e s u 1 → Good c e s (out_by b kind u) 1
+out-good true kind u g = record {
+  sound = record { cycles = g.sound.cycles; events = g.sound.events; ended = g.sound.ended; paid_for = g.sound.paid_for; apart = g.sound.apart; pending = g.sound.pending };
+  rises = g.rises;
+}
+out-good false kind u g = g
+
 module _ (c e : ℕ) (s : State) (ok : Sound c e s) where
   still : Good c e s s 0
   still = record { sound = ok; rises = omega arith }
@@ -233,3 +277,78 @@ module _ (c e : ℕ) (s : State) (ok : Sound c e s) where
   act-good i l sheet Commits es at f held few =
       let g = finish-good i l sheet l.effects Committed 1 es at f (omega arith) in
       record { sound = g.sound; rises = omega (arith, g.rises) }
+
+  -- an event's sponsor runs out: what is left for its signal
+  run_out-good : (i : ℕ) (l : Lane) (kind : Quota) → slice_get s.flight i ≡ Some l → Good c e s (run_out s i l kind) 1
+  run_out-good i l kind at =
+      let sheet = stop s.sheet l.own.sponsor in
+      let f = stop-follows s.sheet l.own.sponsor in
+      let t = total-removed sends s.flight i l at in
+      let g = finish-good i l sheet no_effects (RanOut kind) 0 0 at f.follows (omega arith) in
+      let d = f.dropped in
+      let m = f.follows.events_more in
+      let left : s.next_number + 0 + total sends (remove s.flight i) + total signals sheet + count (prepared s.sheet l.own.sponsor) ≤ 1 + total events_spent sheet = omega (arith, t, d, m, ok.paid_for) in
+      let u = finish s i l sheet no_effects (RanOut kind) in
+      let r = released-good (prepared s.sheet l.own.sponsor) kind u g.sound left in
+      record { sound = r.sound; rises = omega (arith, g.rises, r.rises) }
+
+  charged-good : (i : ℕ) (l : Lane) (k : Option Quota) → slice_get s.flight i ≡ Some l → short (account s.sheet l.own.sponsor) (lane_row s.store s.sheet l).charge ≡ k → Good c e s (charged s i l (lane_row s.store s.sheet l) k).0 1
+  charged-good i l (Some kind) at h = out-good (same_word l.own.sponsor root) kind (run_out s i l kind) (run_out-good i l kind at)
+  charged-good i l None at h =
+      let r = lane_row s.store s.sheet l in
+      act-good i l (spend s.sheet l.own.sponsor r.charge) r.outcome r.charge.events at (spend-follows s.sheet l.own.sponsor r.charge h) (row_at-holds l.own (fetched s.store l.code) s.store s.sheet l.effects (values l.stack)) (λ g is. events-covered r.charge r.outcome g is (row_at-covers l.own (fetched s.store l.code) s.store s.sheet l.effects (values l.stack)))
+
+  step-good : (i : ℕ) (l : Option Lane) → slice_get s.flight i ≡ l → Good c e s (step s i l).0 (if not_rest (step s i l).1 then 1 else 0)
+  step-good i None h = still
+  step-good i (Some l) h = at_most_one c e s _ _ (charged-good i l _ h refl)
+
+  go-good : (pick : ℕ) (m : Option Message) → dispatchable s ≡ m → Good c e s (go s pick m).0 (if not_rest (go s pick m).1 then 1 else 0)
+  go-good pick (Some m) h = at_most_one c e s _ _ (dispatch-good m (sent_at s.store m.event) (device_of (sent_at s.store m.event).target) (dispatchable-chosen s m h))
+  go-good pick None h = step-good (pick % length s.flight) _ refl
+
+  unless_spent-good : (pick : ℕ) (o : Option Quota) → Good c e s (unless_spent s pick o).0 (if unless_out o (not_rest (unless_spent s pick o).1) then 1 else 0)
+  unless_spent-good pick (Some kind) = still
+  unless_spent-good pick None = go-good pick _ refl
+
+  pub turn-good : (pick : ℕ) → Good c e s (turn s pick).0 (if completes s pick then 1 else 0)
+  turn-good pick = unless_spent-good pick s.out_of
+
+-- ---- runs
+
+-- a run keeps it, and each completed turn raises the mass
+pub run-good : (c e : ℕ) (s : State) (ps : List ℕ) → Sound c e s → Good c e s (after s ps) (completed s ps)
+run-good c e s [] ok = record { sound = ok; rises = omega arith }
+run-good c e s (p ∷ ps) ok =
+    let g = turn-good c e s ok p in
+    let r = run-good c e (turn s p).0 ps g.sound in
+    record { sound = r.sound; rises = omega (arith, g.rises, r.rises) }
+
+-- the mass is under what was granted
+mass-under : (c e : ℕ) (s : State) → Sound c e s → mass s ≤ c + 2 * (e + 1)
+mass-under c e s ok =
+    let a = total-under cycles_spent cycles_in s.sheet (λ x. omega arith) in
+    let b = total-under events_spent events_kept_in s.sheet (λ x. omega arith) in
+    let n = no_more (numbers s.flight) s.messages ok.apart ok.pending in
+    let k = length-numbers s.flight in
+    omega (arith, a, b, n, k, ok.cycles, ok.events, ok.ended, ok.paid_for)
+
+booted-sound : (image : Image) (grant : Grant) (lanes : ℕ) → Sound grant.cycles grant.events (booted image grant lanes)
+booted-sound image grant lanes = record {
+  cycles = omega arith;
+  events = omega arith;
+  ended = omega arith;
+  paid_for = omega arith;
+  apart = tt;
+  pending = tt;
+}
+
+-- every run keeps it
+pub run-sound : (image : Image) (grant : Grant) (lanes : ℕ) (picks : List ℕ) → Sound grant.cycles grant.events (run image grant lanes picks)
+run-sound image grant lanes picks = (run-good grant.cycles grant.events (booted image grant lanes) picks (booted-sound image grant lanes)).sound
+
+-- the bound on completed turns
+pub turns-end : TurnsEnd
+turns-end image grant lanes picks =
+    let g = run-good grant.cycles grant.events (booted image grant lanes) picks (booted-sound image grant lanes) in
+    let u = mass-under grant.cycles grant.events _ g.sound in
+    omega (arith, g.rises, u)

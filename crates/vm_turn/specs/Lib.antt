@@ -4,3 +4,4 @@ pub mod Actors
 pub mod Piece
 pub mod Turn
 pub mod Run
+pub mod Laws

@@ -1,10 +1,12 @@
-//! The machine's state and its turn, as definitions that compute.
+//! The machine's state and its turn, as definitions that compute, with their first laws.
 //!
 //! `specs/` defines the state that an image boots to, what a device writes for a message, one turn of the machine, and runs of turns.
 //! The types of the journal and of a turn's answer stand here, since the definitions and the machine share them: `Entry`, `Outcome` and
-//! `Turn`.
+//! `Turn`. `turns_end` says how many turns can be completed.
 #![tactic(auto)]
 
 mod journal;
+mod laws;
 
 pub use journal::{Entry, Outcome, Turn};
+pub use laws::turns_end;
