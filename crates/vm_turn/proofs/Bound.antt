@@ -1,6 +1,6 @@
 -- What every turn keeps, and how many turns can be completed.
-use Rattle.std.proofs.Common.{◌≡◌, ◌⊎◌, inl, inr, ℕ, zero, suc, ◌+◌, ◌*◌, ◌%◌, ◌<◌, ◌≤◌, List, [], ◌∷◌, ◌++◌, length, Option, Some, None, Bool, true, false, ap, refl, sym, ◌∙◌, subst, arith, nat_lt, nat_eq, if◌then◌else◌, length-append}
-use Rattle.std.specs.Prelude.{◌&&◌, not, map, remove, slice_get, slice_set}
+use Rattle.std.proofs.Common.{◌≡◌, inl, inr, ℕ, zero, suc, ◌+◌, ◌*◌, ◌%◌, ◌≤◌, List, [], ◌∷◌, length, Option, Some, None, Bool, true, false, ap, refl, sym, subst, arith, nat_lt, if◌then◌else◌, length-append}
+use Rattle.std.specs.Prelude.{◌&&◌, not, remove, slice_get, slice_set}
 use Rattle.std.proofs.Math.Nat.{le_trans}
 use Rattle.cap_words.specs.Words.{W, same_word}
 use Rattle.cap_words.specs.Seen.{Seen}
@@ -8,8 +8,8 @@ use Rattle.instr_table.specs.declared.charge.Quota.{Quota}
 use Rattle.instr_table.specs.declared.charge.Charge.{Charge}
 use Rattle.instr_table.specs.Code.{fetched}
 use Rattle.instr_table.specs.Event.{Sent, Effects, no_effects, Effect, Nothing, Sends, Creates, Assigns, Becomes, Sponsors, Grants, Reclaims, Starts, Stops, with_effect}
-use Rattle.instr_table.specs.Sheet.{Account, account, short, spend, stop, runs, prepared, sheet_after}
-use Rattle.instr_table.specs.Outcome.{Going, Outcome, Goes, Faults, Commits, Row, events_in}
+use Rattle.instr_table.specs.Sheet.{Account, account, short, spend, stop, runs, prepared}
+use Rattle.instr_table.specs.Outcome.{Going, Outcome, Goes, Faults, Commits, events_in}
 use Rattle.instr_table.specs.Lane.{Lane, begun, values, lane_row, gone}
 use Rattle.instr_table.specs.Laws.{Covers}
 use Rattle.instr_table.proofs.Charges.{row_at-covers}
@@ -19,10 +19,10 @@ use Rattle.vm_turn.specs.State.{Message, State, root}
 use Rattle.vm_turn.specs.Boot.{Image, Grant, booted}
 use Rattle.vm_turn.specs.Actors.{sent_at, is_idle}
 use Rattle.vm_turn.specs.Piece.{piece}
-use Rattle.vm_turn.specs.Turn.{is_in_flight, can_go, first_to_go, dispatchable, entry, without, device_of, own_of, begin, delivered, refused, deliver, dispatch, numbered_from, finish, go_on, act, released, out_by, run_out, charged, step, go, unless_spent, turn}
+use Rattle.vm_turn.specs.Turn.{is_in_flight, first_to_go, dispatchable, entry, without, device_of, own_of, begin, delivered, refused, deliver, dispatch, numbered_from, finish, go_on, act, released, out_by, run_out, charged, step, go, unless_spent, turn}
 use Rattle.vm_turn.specs.Laws.{TurnsEnd}
 use Rattle.vm_turn.specs.Run.{after, run, completes, completed, not_rest, unless_out}
-use Rattle.vm_turn.proofs.Sheets.{total, total-append, cycles_in, events_in as events_kept_in, cycles_spent, events_spent, signals, count, Follows, follows-refl, follows-then, spend-follows, stop-follows, effect-follows, prepares, IsHeld}
+use Rattle.vm_turn.proofs.Sheets.{total, total-append, cycles_in, events_in as events_kept_in, cycles_spent, events_spent, signals, count, Follows, spend-follows, stop-follows, effect-follows, prepares, IsHeld}
 use Rattle.vm_turn.proofs.Grants.{HeldBy, row_at-holds}
 use Rattle.vm_turn.proofs.Numbers.{numbers, Other, Apart, Has, HasAll, fewer, all-append, all-without, no_more, not_in_flight, apart-end, all-end, numbers-end, numbers-set, apart-removed, rest-other, all-removed, has-at}
 
@@ -112,8 +112,10 @@ first-chosen st sheet flight (k ∷ ms) m h = pick (is_in_flight k.number flight
     message_or : Option Message → ℕ
     message_or None = 0
     message_or (Some x) = x.number
+
     later : ((is_in_flight m.number flight ≡ false) × Has ms m.number) → (is_in_flight m.number flight ≡ false) × Has (k ∷ ms) m.number
     later g = (g.0, inr g.1)
+
     pick : (a : Bool) → is_in_flight k.number flight ≡ a → (b c : Bool) → (first_to_go st sheet flight ms ≡ Some m → (is_in_flight m.number flight ≡ false) × Has ms m.number) → (if (not a && b && c) then Some k else first_to_go st sheet flight ms) ≡ Some m → (is_in_flight m.number flight ≡ false) × Has (k ∷ ms) m.number
     pick true e b c r g = later (r g)
     pick false e false c r g = later (r g)

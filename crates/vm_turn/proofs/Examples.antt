@@ -76,7 +76,7 @@ unfolding piece tree_to look_up
 refuses_a_loop = refl
 
 abbrev letters : Seen
-letters = record { rom = pair_quad (Fix (pos 104)) (Rom 17) ∷ pair_quad (Fix (pos 228)) nil ∷ record { t = symbol_t; x = Rom 16; y = undef; z = undef } ∷ record { t = symbol_t; x = Rom 20; y = undef; z = undef } ∷ pair_quad (Fix (pos 104)) nil ∷ []; slots = [] }
+letters = record { rom = pair_quad (Fix (pos 104)) (Rom 17) ∷ pair_quad (Fix (pos 228)) nil ∷ record { t = symbol_t; x = Rom 16; y = undef; z = undef } ∷ record { t = symbol_t; x = Rom 20; y = undef; z = undef } ∷ pair_quad (Fix (pos 104)) nil ∷ record { t = symbol_t; x = Rom 22; y = undef; z = undef } ∷ pair_quad (Fix (pos 40)) nil ∷ []; slots = [] }
 
 says_in_utf8 : piece 1 letters (Rom 16) ≡ Some (104 ∷ 195 ∷ 164 ∷ 10 ∷ [])
 unfolding piece tree_to look_up encode
@@ -90,6 +90,11 @@ prints_symbols = refl
 prints_a_symbol : piece 0 letters (Rom 19) ≡ Some (codes "#h" ++ 10 ∷ [])
 unfolding piece tree_to look_up
 prints_a_symbol = refl
+
+-- nor a delimiter
+prints_no_delimiter : piece 0 letters (Rom 21) ≡ Some (codes "^" ++ 10 ∷ [])
+unfolding piece tree_to look_up
+prints_no_delimiter = refl
 
 -- ---- what is told of a run: the output, the journal, and what the root has spent
 

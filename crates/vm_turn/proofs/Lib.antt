@@ -3,3 +3,4 @@ pub mod Sheets
 pub mod Grants
 pub mod Numbers
 pub mod Bound
+pub mod Balances

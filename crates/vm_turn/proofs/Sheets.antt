@@ -1,5 +1,5 @@
 -- What paying, passing on, starting and stopping do to a sheet's sums.
-use Rattle.std.proofs.Common.{◌≡◌, ◌⊎◌, inl, inr, ℕ, ◌+◌, ◌<◌, ◌≤◌, List, [], ◌∷◌, ◌++◌, Option, Some, None, Bool, true, false, if◌then◌else◌, ap, refl, ◌∙◌, arith}
+use Rattle.std.proofs.Common.{◌≡◌, ◌⊎◌, inl, inr, ℕ, ◌+◌, ◌≤◌, List, [], ◌∷◌, ◌++◌, Option, Some, None, Bool, true, false, if◌then◌else◌, ap, refl, ◌∙◌, arith}
 use Rattle.std.proofs.Math.Nat.{le_refl}
 use Rattle.std.proofs.lemmas.Bool.Decides.{nat_tests}
 use Rattle.cap_words.specs.Words.{W, same_word}
@@ -94,6 +94,7 @@ spend-follows rows w c h = pick (found rows w)
   where
     e : Enough (account rows w) c
     e = enough (account rows w) c h
+
     pick : There rows w ⊎ Absent rows w → Follows rows (spend rows w c) 1 c.events 0
     pick (inl t) = record {
       cycles_kept = let s = t cycles_in (paid c) in omega (arith, e.in_cycles, s);
@@ -274,17 +275,25 @@ transfer-other rows from to v k kind n named keeps = pick (same_word from to)
         held-other (at_account from (at_amount k (passes n)) rows) to v kind (at_amount k (receives n)) (named (receives n)) (keeps (receives n))
         ∙ held-other rows from v kind (at_amount k (passes n)) (named (passes n)) (keeps (passes n))
 
-pub reclaim-follows : (rows : List Account) (from to : W) → Follows rows (reclaim rows from to) 0 0 0
-reclaim-follows rows from to =
+-- what is taken back of each kind is still held when its turn comes
+pub reclaim-held : (rows : List Account) (from to : W) → (held rows from Events ≤ held (transfer rows from to Memory (held rows from Memory)) from Events) × (held rows from Cycles ≤ held (transfer (transfer rows from to Memory (held rows from Memory)) from to Events (held rows from Events)) from Cycles)
+reclaim-held rows from to =
     let first = transfer rows from to Memory (held rows from Memory) in
     let second = transfer first from to Events (held rows from Events) in
     let e : held first from Events ≡ held rows from Events = transfer-other rows from to from Memory Events _ (λ g a. refl) (λ g a. refl) in
     let c : held first from Cycles ≡ held rows from Cycles = transfer-other rows from to from Memory Cycles _ (λ g a. refl) (λ g a. refl) in
     let d : held second from Cycles ≡ held first from Cycles = transfer-other first from to from Events Cycles _ (λ g a. refl) (λ g a. refl) in
+    (omega (arith, e), omega (arith, c, d))
+
+pub reclaim-follows : (rows : List Account) (from to : W) → Follows rows (reclaim rows from to) 0 0 0
+reclaim-follows rows from to =
+    let first = transfer rows from to Memory (held rows from Memory) in
+    let second = transfer first from to Events (held rows from Events) in
+    let h = reclaim-held rows from to in
     let f = transfer-follows rows from to Memory (held rows from Memory) (le_refl _) in
-    let g = transfer-follows first from to Events (held rows from Events) (omega (arith, e)) in
-    let h = transfer-follows second from to Cycles (held rows from Cycles) (omega (arith, c, d)) in
-    follows-then rows second (reclaim rows from to) 0 0 0 0 0 0 (follows-then rows first second 0 0 0 0 0 0 f g) h
+    let g = transfer-follows first from to Events (held rows from Events) h.0 in
+    let k = transfer-follows second from to Cycles (held rows from Cycles) h.1 in
+    follows-then rows second (reclaim rows from to) 0 0 0 0 0 0 (follows-then rows first second 0 0 0 0 0 0 f g) k
 
 -- ---- what an effect does
 

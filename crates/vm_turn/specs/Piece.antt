@@ -1,5 +1,6 @@
 -- What the devices write.
-use Rattle.std.specs.Prelude.{ℕ, zero, suc, ◌+◌, nat_eq, nat_lt, nat_le, if◌then◌else◌, ℤ, pos, negsuc, Bool, true, false, ◌&&◌, ◌||◌, List, [], ◌∷◌, ◌++◌, Option, Some, None, option_map, codes, decimal, encode_utf8}
+use Rattle.std.specs.Prelude.{ℕ, zero, suc, ◌+◌, nat_eq, nat_lt, nat_le, if◌then◌else◌, ℤ, pos, negsuc, Bool, true, false, not, ◌&&◌, ◌||◌, List, [], ◌∷◌, ◌++◌, Option, Some, None, option_map, codes, decimal, encode_utf8}
+use Rattle.std.specs.List.{list_any}
 use Rattle.cap_words.specs.declared.word.Quad.{Quad}
 use Rattle.cap_words.specs.Words.{W, Fix, Rom, Ram, Cap, same_word, nil, symbol_t, func_t, block_t}
 use Rattle.cap_words.specs.Seen.{Seen, cell_seen}
@@ -66,10 +67,18 @@ numbers_to s (suc n) w = elim (pair_in (cell_seen s w)) [
   | Some q ↦ before q.x (numbers_to s n q.y)
 ]
 
+-- whether a byte has a meaning of its own in a text of the language
+abbrev pub is_delimiter : ℕ → Bool
+is_delimiter b = list_any (λ d. nat_eq d b) (codes "()[],.=:\"$\\#")
+
+-- the name of a symbol: 1 to 128 visible bytes, with no delimiter
+abbrev pub is_run : List ℕ → Bool
+is_run bytes = is_name bytes && not (list_any is_delimiter bytes)
+
 -- a symbol's name after `#`, where it is one
 abbrev pub symbol_text : Option (List ℕ) → List ℕ
 symbol_text None = codes "^"
-symbol_text (Some name) = if is_name name then codes "#" ++ name else codes "^"
+symbol_text (Some name) = if is_run name then codes "#" ++ name else codes "^"
 
 -- a cell that is no pair, by its first word
 abbrev pub cell_text : Seen → Quad → List ℕ
