@@ -4,3 +4,4 @@ pub mod Grants
 pub mod Numbers
 pub mod Bound
 pub mod Balances
+pub mod Changed

@@ -5,3 +5,4 @@ pub mod Piece
 pub mod Turn
 pub mod Run
 pub mod Laws
+pub mod Changes
