@@ -5,3 +5,4 @@ pub mod Numbers
 pub mod Bound
 pub mod Balances
 pub mod Changed
+pub mod Runs

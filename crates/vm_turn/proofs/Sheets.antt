@@ -20,11 +20,17 @@ pub total-append : {A : Type 0} (f : A → ℕ) (xs ys : List A) → total f (xs
 total-append f [] ys = omega arith
 total-append f (x ∷ xs) ys = let h = total-append f xs ys in omega (arith, h)
 
+abbrev pub memory_in : Account → ℕ
+memory_in a = a.memory.spent + a.memory.held
+
 abbrev pub cycles_in : Account → ℕ
 cycles_in a = a.cycles.spent + a.cycles.held
 
 abbrev pub events_in : Account → ℕ
 events_in a = a.events.spent + a.events.held
+
+abbrev pub memory_spent : Account → ℕ
+memory_spent a = a.memory.spent
 
 abbrev pub cycles_spent : Account → ℕ
 cycles_spent a = a.cycles.spent
@@ -61,18 +67,22 @@ found (a ∷ rows) w = found_at a rows w (same_word a.sponsor w) (found rows w)
 -- ---- what a new sheet keeps
 
 -- no more is spent and held; so much more is spent; and at most so many more signals are prepared
-pub record Follows (old new : List Account) (cycles events more : ℕ) : Type 0 where
+pub record Follows (old new : List Account) (quads cycles events more : ℕ) : Type 0 where
+  pub memory_kept : total memory_in new ≤ total memory_in old
+  pub memory_more : total memory_spent old + quads ≤ total memory_spent new
   pub cycles_kept : total cycles_in new ≤ total cycles_in old
   pub events_kept : total events_in new ≤ total events_in old
   pub cycles_more : total cycles_spent old + cycles ≤ total cycles_spent new
   pub events_more : total events_spent old + events ≤ total events_spent new
   pub signals_more : total signals new ≤ total signals old + more
 
-pub follows-refl : (rows : List Account) → Follows rows rows 0 0 0
-follows-refl rows = record { cycles_kept = le_refl _; events_kept = le_refl _; cycles_more = omega arith; events_more = omega arith; signals_more = omega arith }
+pub follows-refl : (rows : List Account) → Follows rows rows 0 0 0 0
+follows-refl rows = record { memory_kept = le_refl _; memory_more = omega arith; cycles_kept = le_refl _; events_kept = le_refl _; cycles_more = omega arith; events_more = omega arith; signals_more = omega arith }
 
-pub follows-then : (a b c : List Account) (m n j k i l : ℕ) → Follows a b m n j → Follows b c k i l → Follows a c (m + k) (n + i) (j + l)
-follows-then a b c m n j k i l f g = record {
+pub follows-then : (a b c : List Account) (p m n j q k i l : ℕ) → Follows a b p m n j → Follows b c q k i l → Follows a c (p + q) (m + k) (n + i) (j + l)
+follows-then a b c p m n j q k i l f g = record {
+  memory_kept = omega (arith, f.memory_kept, g.memory_kept);
+  memory_more = omega (arith, f.memory_more, g.memory_more);
   cycles_kept = omega (arith, f.cycles_kept, g.cycles_kept);
   events_kept = omega (arith, f.events_kept, g.events_kept);
   cycles_more = omega (arith, f.cycles_more, g.cycles_more);
@@ -83,20 +93,23 @@ follows-then a b c m n j k i l f g = record {
 -- ---- paying
 
 pub record Enough (a : Account) (c : Charge) : Type 0 where
+  pub in_memory : c.quads ≤ a.memory.held
   pub in_cycles : 1 ≤ a.cycles.held
   pub in_events : c.events ≤ a.events.held
 
 enough : (a : Account) (c : Charge) → short a c ≡ None → Enough a c
-enough a c h = record { in_cycles = grind (arith, nat_tests); in_events = grind (arith, nat_tests) }
+enough a c h = record { in_memory = grind (arith, nat_tests); in_cycles = grind (arith, nat_tests); in_events = grind (arith, nat_tests) }
 
-pub spend-follows : (rows : List Account) (w : W) (c : Charge) → short (account rows w) c ≡ None → Follows rows (spend rows w c) 1 c.events 0
+pub spend-follows : (rows : List Account) (w : W) (c : Charge) → short (account rows w) c ≡ None → Follows rows (spend rows w c) c.quads 1 c.events 0
 spend-follows rows w c h = pick (found rows w)
   where
     e : Enough (account rows w) c
     e = enough (account rows w) c h
 
-    pick : There rows w ⊎ Absent rows w → Follows rows (spend rows w c) 1 c.events 0
+    pick : There rows w ⊎ Absent rows w → Follows rows (spend rows w c) c.quads 1 c.events 0
     pick (inl t) = record {
+      memory_kept = let s = t memory_in (paid c) in omega (arith, e.in_memory, s);
+      memory_more = let s = t memory_spent (paid c) in omega (arith, s);
       cycles_kept = let s = t cycles_in (paid c) in omega (arith, e.in_cycles, s);
       events_kept = let s = t events_in (paid c) in omega (arith, e.in_events, s);
       cycles_more = let s = t cycles_spent (paid c) in omega (arith, s);
@@ -107,22 +120,24 @@ spend-follows rows w c h = pick (found rows w)
 
 -- ---- starting and stopping
 
-pub start-follows : (rows : List Account) (w signal : W) → Follows rows (start rows w signal) 0 0 1
+pub start-follows : (rows : List Account) (w signal : W) → Follows rows (start rows w signal) 0 0 0 1
 start-follows rows w signal = pick (found rows w)
   where
-    pick : There rows w ⊎ Absent rows w → Follows rows (start rows w signal) 0 0 1
+    pick : There rows w ⊎ Absent rows w → Follows rows (start rows w signal) 0 0 0 1
     pick (inl t) = record {
+      memory_kept = let s = t memory_in (stands_as (Running (Some signal))) in omega (arith, s);
+      memory_more = let s = t memory_spent (stands_as (Running (Some signal))) in omega (arith, s);
       cycles_kept = let s = t cycles_in (stands_as (Running (Some signal))) in omega (arith, s);
       events_kept = let s = t events_in (stands_as (Running (Some signal))) in omega (arith, s);
       cycles_more = let s = t cycles_spent (stands_as (Running (Some signal))) in omega (arith, s);
       events_more = let s = t events_spent (stands_as (Running (Some signal))) in omega (arith, s);
       signals_more = let s = t signals (stands_as (Running (Some signal))) in omega (arith, s);
     }
-    pick (inr n) = rw (n.0 (stands_as (Running (Some signal)))) (record { cycles_kept = le_refl _; events_kept = le_refl _; cycles_more = omega arith; events_more = omega arith; signals_more = omega arith })
+    pick (inr n) = rw (n.0 (stands_as (Running (Some signal)))) (record { memory_kept = le_refl _; memory_more = omega arith; cycles_kept = le_refl _; events_kept = le_refl _; cycles_more = omega arith; events_more = omega arith; signals_more = omega arith })
 
 -- a sponsor that is stopped has no signal any more
 pub record Stops_at (rows new : List Account) (w : W) : Type 0 where
-  pub follows : Follows rows new 0 0 0
+  pub follows : Follows rows new 0 0 0 0
   pub dropped : total signals new + count (prepared rows w) ≤ total signals rows
 
 pub stop-follows : (rows : List Account) (w : W) → Stops_at rows (stop rows w) w
@@ -131,6 +146,8 @@ stop-follows rows w = pick (found rows w)
     pick : There rows w ⊎ Absent rows w → Stops_at rows (stop rows w) w
     pick (inl t) = record {
       follows = record {
+        memory_kept = let s = t memory_in (stands_as Stopped) in omega (arith, s);
+        memory_more = let s = t memory_spent (stands_as Stopped) in omega (arith, s);
         cycles_kept = let s = t cycles_in (stands_as Stopped) in omega (arith, s);
         events_kept = let s = t events_in (stands_as Stopped) in omega (arith, s);
         cycles_more = let s = t cycles_spent (stands_as Stopped) in omega (arith, s);
@@ -151,29 +168,66 @@ of_cycles Memory n = 0
 of_cycles Events n = 0
 of_cycles Cycles n = n
 
+abbrev of_memory : Quota → ℕ → ℕ
+of_memory Memory n = n
+of_memory Events n = 0
+of_memory Cycles n = 0
+
 abbrev of_events : Quota → ℕ → ℕ
 of_events Memory n = 0
 of_events Events n = n
 of_events Cycles n = 0
 
 -- what is left where so much is gone
-record Without (old new : List Account) (cycles events : ℕ) : Type 0 where
+record Without (old new : List Account) (quads cycles events : ℕ) : Type 0 where
+  memory_left : total memory_in new + quads ≤ total memory_in old
+  memory_same : total memory_spent new ≡ total memory_spent old
   cycles_left : total cycles_in new + cycles ≤ total cycles_in old
   events_left : total events_in new + events ≤ total events_in old
   cycles_same : total cycles_spent new ≡ total cycles_spent old
   events_same : total events_spent new ≡ total events_spent old
   signals_same : total signals new ≡ total signals old
 
-passes-there : (rows : List Account) (w : W) (kind : Quota) (n : ℕ) → n ≤ held rows w kind → There rows w → Without rows (at_account w (at_amount kind (passes n)) rows) (of_cycles kind n) (of_events kind n)
+passes-there : (rows : List Account) (w : W) (kind : Quota) (n : ℕ) → n ≤ held rows w kind → There rows w → Without rows (at_account w (at_amount kind (passes n)) rows) (of_memory kind n) (of_cycles kind n) (of_events kind n)
 passes-there rows w Memory n h t =
+    let p = t memory_in (at_amount Memory (passes n)) in
+    let q = t memory_spent (at_amount Memory (passes n)) in
     let a = t cycles_in (at_amount Memory (passes n)) in let b = t events_in (at_amount Memory (passes n)) in let c = t cycles_spent (at_amount Memory (passes n)) in let d = t events_spent (at_amount Memory (passes n)) in let e = t signals (at_amount Memory (passes n)) in
-    record { cycles_left = omega (arith, a); events_left = omega (arith, b); cycles_same = omega (arith, c); events_same = omega (arith, d); signals_same = omega (arith, e) }
+    record {
+      memory_left = omega (arith, p, h);
+      memory_same = omega (arith, q);
+      cycles_left = omega (arith, a);
+      events_left = omega (arith, b);
+      cycles_same = omega (arith, c);
+      events_same = omega (arith, d);
+      signals_same = omega (arith, e);
+    }
 passes-there rows w Events n h t =
+    let p = t memory_in (at_amount Events (passes n)) in
+    let q = t memory_spent (at_amount Events (passes n)) in
     let a = t cycles_in (at_amount Events (passes n)) in let b = t events_in (at_amount Events (passes n)) in let c = t cycles_spent (at_amount Events (passes n)) in let d = t events_spent (at_amount Events (passes n)) in let e = t signals (at_amount Events (passes n)) in
-    record { cycles_left = omega (arith, a); events_left = omega (arith, b, h); cycles_same = omega (arith, c); events_same = omega (arith, d); signals_same = omega (arith, e) }
+    record {
+      memory_left = omega (arith, p, h);
+      memory_same = omega (arith, q);
+      cycles_left = omega (arith, a);
+      events_left = omega (arith, b, h);
+      cycles_same = omega (arith, c);
+      events_same = omega (arith, d);
+      signals_same = omega (arith, e);
+    }
 passes-there rows w Cycles n h t =
+    let p = t memory_in (at_amount Cycles (passes n)) in
+    let q = t memory_spent (at_amount Cycles (passes n)) in
     let a = t cycles_in (at_amount Cycles (passes n)) in let b = t events_in (at_amount Cycles (passes n)) in let c = t cycles_spent (at_amount Cycles (passes n)) in let d = t events_spent (at_amount Cycles (passes n)) in let e = t signals (at_amount Cycles (passes n)) in
-    record { cycles_left = omega (arith, a, h); events_left = omega (arith, b); cycles_same = omega (arith, c); events_same = omega (arith, d); signals_same = omega (arith, e) }
+    record {
+      memory_left = omega (arith, p, h);
+      memory_same = omega (arith, q);
+      cycles_left = omega (arith, a, h);
+      events_left = omega (arith, b);
+      cycles_same = omega (arith, c);
+      events_same = omega (arith, d);
+      signals_same = omega (arith, e);
+    }
 
 held-none : (kind : Quota) (w : W) → (amount kind (no_account w)).held ≡ 0
 held-none Memory w = refl
@@ -185,55 +239,95 @@ of_cycles-under Memory n = omega arith
 of_cycles-under Events n = omega arith
 of_cycles-under Cycles n = le_refl n
 
+of_memory-under : (kind : Quota) (n : ℕ) → of_memory kind n ≤ n
+of_memory-under Memory n = le_refl n
+of_memory-under Events n = omega arith
+of_memory-under Cycles n = omega arith
+
 of_events-under : (kind : Quota) (n : ℕ) → of_events kind n ≤ n
 of_events-under Memory n = omega arith
 of_events-under Events n = le_refl n
 of_events-under Cycles n = omega arith
 
-passes-without : (rows : List Account) (w : W) (kind : Quota) (n : ℕ) → n ≤ held rows w kind → Without rows (at_account w (at_amount kind (passes n)) rows) (of_cycles kind n) (of_events kind n)
+passes-without : (rows : List Account) (w : W) (kind : Quota) (n : ℕ) → n ≤ held rows w kind → Without rows (at_account w (at_amount kind (passes n)) rows) (of_memory kind n) (of_cycles kind n) (of_events kind n)
 passes-without rows w kind n h = pick (found rows w)
   where
-    pick : There rows w ⊎ Absent rows w → Without rows (at_account w (at_amount kind (passes n)) rows) (of_cycles kind n) (of_events kind n)
+    pick : There rows w ⊎ Absent rows w → Without rows (at_account w (at_amount kind (passes n)) rows) (of_memory kind n) (of_cycles kind n) (of_events kind n)
     pick (inl t) = passes-there rows w kind n h t
     pick (inr z) =
         let e : held rows w kind ≡ (amount kind (no_account w)).held = ap (λ (a : Account). (amount kind a).held) z.1 in
         let k = held-none kind w in
         let c = of_cycles-under kind n in
         let d = of_events-under kind n in
-        rw (z.0 (at_amount kind (passes n))) (record { cycles_left = omega (arith, h, e, k, c); events_left = omega (arith, h, e, k, d); cycles_same = refl; events_same = refl; signals_same = refl })
+        let g = of_memory-under kind n in
+        rw (z.0 (at_amount kind (passes n))) (record { memory_left = omega (arith, h, e, k, g); memory_same = refl; cycles_left = omega (arith, h, e, k, c); events_left = omega (arith, h, e, k, d); cycles_same = refl; events_same = refl; signals_same = refl })
 
 -- what may be gained where so much comes
-record With (old new : List Account) (cycles events : ℕ) : Type 0 where
+record With (old new : List Account) (quads cycles events : ℕ) : Type 0 where
+  memory_got : total memory_in new ≤ total memory_in old + quads
+  memory_same : total memory_spent new ≡ total memory_spent old
   cycles_got : total cycles_in new ≤ total cycles_in old + cycles
   events_got : total events_in new ≤ total events_in old + events
   cycles_same : total cycles_spent new ≡ total cycles_spent old
   events_same : total events_spent new ≡ total events_spent old
   signals_same : total signals new ≡ total signals old
 
-receives-there : (rows : List Account) (w : W) (kind : Quota) (n : ℕ) → There rows w → With rows (at_account w (at_amount kind (receives n)) rows) (of_cycles kind n) (of_events kind n)
+receives-there : (rows : List Account) (w : W) (kind : Quota) (n : ℕ) → There rows w → With rows (at_account w (at_amount kind (receives n)) rows) (of_memory kind n) (of_cycles kind n) (of_events kind n)
 receives-there rows w Memory n t =
+    let p = t memory_in (at_amount Memory (receives n)) in
+    let q = t memory_spent (at_amount Memory (receives n)) in
     let a = t cycles_in (at_amount Memory (receives n)) in let b = t events_in (at_amount Memory (receives n)) in let c = t cycles_spent (at_amount Memory (receives n)) in let d = t events_spent (at_amount Memory (receives n)) in let e = t signals (at_amount Memory (receives n)) in
-    record { cycles_got = omega (arith, a); events_got = omega (arith, b); cycles_same = omega (arith, c); events_same = omega (arith, d); signals_same = omega (arith, e) }
+    record {
+      memory_got = omega (arith, p);
+      memory_same = omega (arith, q);
+      cycles_got = omega (arith, a);
+      events_got = omega (arith, b);
+      cycles_same = omega (arith, c);
+      events_same = omega (arith, d);
+      signals_same = omega (arith, e);
+    }
 receives-there rows w Events n t =
+    let p = t memory_in (at_amount Events (receives n)) in
+    let q = t memory_spent (at_amount Events (receives n)) in
     let a = t cycles_in (at_amount Events (receives n)) in let b = t events_in (at_amount Events (receives n)) in let c = t cycles_spent (at_amount Events (receives n)) in let d = t events_spent (at_amount Events (receives n)) in let e = t signals (at_amount Events (receives n)) in
-    record { cycles_got = omega (arith, a); events_got = omega (arith, b); cycles_same = omega (arith, c); events_same = omega (arith, d); signals_same = omega (arith, e) }
+    record {
+      memory_got = omega (arith, p);
+      memory_same = omega (arith, q);
+      cycles_got = omega (arith, a);
+      events_got = omega (arith, b);
+      cycles_same = omega (arith, c);
+      events_same = omega (arith, d);
+      signals_same = omega (arith, e);
+    }
 receives-there rows w Cycles n t =
+    let p = t memory_in (at_amount Cycles (receives n)) in
+    let q = t memory_spent (at_amount Cycles (receives n)) in
     let a = t cycles_in (at_amount Cycles (receives n)) in let b = t events_in (at_amount Cycles (receives n)) in let c = t cycles_spent (at_amount Cycles (receives n)) in let d = t events_spent (at_amount Cycles (receives n)) in let e = t signals (at_amount Cycles (receives n)) in
-    record { cycles_got = omega (arith, a); events_got = omega (arith, b); cycles_same = omega (arith, c); events_same = omega (arith, d); signals_same = omega (arith, e) }
+    record {
+      memory_got = omega (arith, p);
+      memory_same = omega (arith, q);
+      cycles_got = omega (arith, a);
+      events_got = omega (arith, b);
+      cycles_same = omega (arith, c);
+      events_same = omega (arith, d);
+      signals_same = omega (arith, e);
+    }
 
-receives-with : (rows : List Account) (w : W) (kind : Quota) (n : ℕ) → With rows (at_account w (at_amount kind (receives n)) rows) (of_cycles kind n) (of_events kind n)
+receives-with : (rows : List Account) (w : W) (kind : Quota) (n : ℕ) → With rows (at_account w (at_amount kind (receives n)) rows) (of_memory kind n) (of_cycles kind n) (of_events kind n)
 receives-with rows w kind n = pick (found rows w)
   where
-    pick : There rows w ⊎ Absent rows w → With rows (at_account w (at_amount kind (receives n)) rows) (of_cycles kind n) (of_events kind n)
+    pick : There rows w ⊎ Absent rows w → With rows (at_account w (at_amount kind (receives n)) rows) (of_memory kind n) (of_cycles kind n) (of_events kind n)
     pick (inl t) = receives-there rows w kind n t
-    pick (inr z) = rw (z.0 (at_amount kind (receives n))) (record { cycles_got = omega arith; events_got = omega arith; cycles_same = refl; events_same = refl; signals_same = refl })
+    pick (inr z) = rw (z.0 (at_amount kind (receives n))) (record { memory_got = omega arith; memory_same = refl; cycles_got = omega arith; events_got = omega arith; cycles_same = refl; events_same = refl; signals_same = refl })
 
-moved : (rows : List Account) (from to : W) (kind : Quota) (n : ℕ) → n ≤ held rows from kind → (b : Bool) → Follows rows (if b then rows else at_account to (at_amount kind (receives n)) (at_account from (at_amount kind (passes n)) rows)) 0 0 0
+moved : (rows : List Account) (from to : W) (kind : Quota) (n : ℕ) → n ≤ held rows from kind → (b : Bool) → Follows rows (if b then rows else at_account to (at_amount kind (receives n)) (at_account from (at_amount kind (passes n)) rows)) 0 0 0 0
 moved rows from to kind n h true = follows-refl rows
 moved rows from to kind n h false =
     let p = passes-without rows from kind n h in
     let g = receives-with (at_account from (at_amount kind (passes n)) rows) to kind n in
     record {
+      memory_kept = omega (arith, p.memory_left, g.memory_got);
+      memory_more = omega (arith, p.memory_same, g.memory_same);
       cycles_kept = omega (arith, p.cycles_left, g.cycles_got);
       events_kept = omega (arith, p.events_left, g.events_got);
       cycles_more = omega (arith, p.cycles_same, g.cycles_same);
@@ -241,7 +335,7 @@ moved rows from to kind n h false =
       signals_more = omega (arith, p.signals_same, g.signals_same);
     }
 
-pub transfer-follows : (rows : List Account) (from to : W) (kind : Quota) (n : ℕ) → n ≤ held rows from kind → Follows rows (transfer rows from to kind n) 0 0 0
+pub transfer-follows : (rows : List Account) (from to : W) (kind : Quota) (n : ℕ) → n ≤ held rows from kind → Follows rows (transfer rows from to kind n) 0 0 0 0
 transfer-follows rows from to kind n h = moved rows from to kind n h (same_word from to)
 
 -- ---- what is held of another kind
@@ -285,7 +379,7 @@ reclaim-held rows from to =
     let d : held second from Cycles ≡ held first from Cycles = transfer-other first from to from Events Cycles _ (λ g a. refl) (λ g a. refl) in
     (omega (arith, e), omega (arith, c, d))
 
-pub reclaim-follows : (rows : List Account) (from to : W) → Follows rows (reclaim rows from to) 0 0 0
+pub reclaim-follows : (rows : List Account) (from to : W) → Follows rows (reclaim rows from to) 0 0 0 0
 reclaim-follows rows from to =
     let first = transfer rows from to Memory (held rows from Memory) in
     let second = transfer first from to Events (held rows from Events) in
@@ -293,7 +387,7 @@ reclaim-follows rows from to =
     let f = transfer-follows rows from to Memory (held rows from Memory) (le_refl _) in
     let g = transfer-follows first from to Events (held rows from Events) h.0 in
     let k = transfer-follows second from to Cycles (held rows from Cycles) h.1 in
-    follows-then rows second (reclaim rows from to) 0 0 0 0 0 0 (follows-then rows first second 0 0 0 0 0 0 f g) k
+    follows-then rows second (reclaim rows from to) 0 0 0 0 0 0 0 0 (follows-then rows first second 0 0 0 0 0 0 0 0 f g) k
 
 -- ---- what an effect does
 
@@ -323,8 +417,10 @@ prepares (Reclaims w) = 0
 prepares (Starts w signal) = 1
 prepares (Stops w) = 0
 
-sponsor-follows : (rows : List Account) (w : W) → Follows rows (with_sponsor rows w) 0 0 0
+sponsor-follows : (rows : List Account) (w : W) → Follows rows (with_sponsor rows w) 0 0 0 0
 sponsor-follows rows w = record {
+  memory_kept = let s = total-append memory_in rows (no_account w ∷ []) in omega (arith, s);
+  memory_more = let s = total-append memory_spent rows (no_account w ∷ []) in omega (arith, s);
   cycles_kept = let s = total-append cycles_in rows (no_account w ∷ []) in omega (arith, s);
   events_kept = let s = total-append events_in rows (no_account w ∷ []) in omega (arith, s);
   cycles_more = let s = total-append cycles_spent rows (no_account w ∷ []) in omega (arith, s);
@@ -332,7 +428,7 @@ sponsor-follows rows w = record {
   signals_more = let s = total-append signals rows (no_account w ∷ []) in omega (arith, s);
 }
 
-pub effect-follows : (rows : List Account) (who : W) (x : Effect) → IsHeld rows who x → Follows rows (sheet_after rows who x) 0 0 (prepares x)
+pub effect-follows : (rows : List Account) (who : W) (x : Effect) → IsHeld rows who x → Follows rows (sheet_after rows who x) 0 0 0 (prepares x)
 effect-follows rows who Nothing h = follows-refl rows
 effect-follows rows who (Sends m) h = follows-refl rows
 effect-follows rows who (Creates m) h = follows-refl rows

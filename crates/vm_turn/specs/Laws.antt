@@ -1,7 +1,10 @@
 -- What is so of every run.
-use Rattle.std.specs.Prelude.{ℕ, ◌+◌, ◌*◌, ◌≤◌, List}
-use Rattle.instr_table.specs.Sheet.{Account, Balances}
+use Rattle.std.specs.Prelude.{ℕ, ◌+◌, ◌*◌, ◌≤◌, List, [], ◌∷◌, length}
+use Rattle.instr_table.specs.declared.charge.Quota.{Quota}
+use Rattle.instr_table.specs.declared.charge.Quota.TheVariants.{Memory, Events, Cycles}
+use Rattle.instr_table.specs.Sheet.{Account, Balances, amount}
 use Rattle.instr_table.specs.Reach.{Every}
+use Rattle.vm_turn.specs.State.{State}
 use Rattle.vm_turn.specs.Boot.{Image, Grant, booted}
 use Rattle.vm_turn.specs.Run.{run, completed}
 
@@ -19,3 +22,24 @@ pub record AddsUp (a : Account) : Type 0 where
 -- so each account adds up after every run
 abbrev pub AccountsAddUp : Type 0
 AccountsAddUp = (image : Image) (grant : Grant) (lanes : ℕ) (picks : List ℕ) → Every AddsUp (run image grant lanes picks).sheet
+
+-- what all sponsors together have spent of a kind, and what they hold
+abbrev pub spent_by_all : Quota → List Account → ℕ
+spent_by_all kind [] = 0
+spent_by_all kind (a ∷ rows) = (amount kind a).spent + spent_by_all kind rows
+
+abbrev pub held_by_all : Quota → List Account → ℕ
+held_by_all kind [] = 0
+held_by_all kind (a ∷ rows) = (amount kind a).held + held_by_all kind rows
+
+-- of each kind no more is spent and held than was granted; and the quads that are taken leave room for the memory that is held, where
+-- there is room for the grant and the eight quads of boot
+pub record KeepsToGrant (grant : Grant) (s : State) : Type 0 where
+  pub memory : spent_by_all Memory s.sheet + held_by_all Memory s.sheet ≤ grant.memory
+  pub events : spent_by_all Events s.sheet + held_by_all Events s.sheet ≤ grant.events
+  pub cycles : spent_by_all Cycles s.sheet + held_by_all Cycles s.sheet ≤ grant.cycles
+  pub room : length s.store.slots + held_by_all Memory s.sheet ≤ 8 + grant.memory
+
+-- so every run does
+abbrev pub RunsKeepToGrant : Type 0
+RunsKeepToGrant = (image : Image) (grant : Grant) (lanes : ℕ) (picks : List ℕ) → KeepsToGrant grant (run image grant lanes picks)

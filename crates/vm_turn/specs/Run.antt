@@ -51,6 +51,11 @@ completed s (p ∷ ps) = (if completes s p then 1 else 0) + completed (turn s p)
 abbrev pub drawn : ℕ → ℕ
 drawn x = (1664525 * x + 1013904223) % 2 ^ 32
 
+-- the generator's number after n draws
+abbrev pub drawn_after : ℕ → ℕ → ℕ
+drawn_after seed zero = seed
+drawn_after seed (suc n) = drawn_after (drawn seed) n
+
 -- the pick of a number that was drawn
 abbrev pub pick_of : ℕ → ℕ
 pick_of x = x / 65536

@@ -1,6 +1,6 @@
 // What is so of every run.
 
-ghost use Rattle.vm_turn.specs.Laws.{TurnsEnd, AccountsAddUp};
+ghost use Rattle.vm_turn.specs.Laws.{TurnsEnd, AccountsAddUp, RunsKeepToGrant};
 ghost use Rattle.vm_turn.specs.Changes.{TurnsChange};
 
 /// A machine with C cycles and E events completes at most `C + 2 (E + 1)` turns, whatever its image, its lanes and its picks: each
@@ -12,6 +12,12 @@ pub fn turns_end()
 /// In every account, after every run, what was received of each kind is what was passed on, spent and is held.
 pub fn accounts_add_up()
     ensures { AccountsAddUp }
+{}
+
+/// After every run no more is spent and held of each kind, over all sponsors, than was granted; and the quads that are taken leave room for
+/// the memory that is held, in a store with room for the grant and the eight quads of boot.
+pub fn runs_keep_to_grant()
+    ensures { RunsKeepToGrant }
 {}
 
 /// What a turn changes is told by its answer. An instruction that goes on changes its own lane, new quads and the sheet. An event that
