@@ -7,7 +7,6 @@ use Rattle.cap_words.specs.Store.{cap_place}
 use Rattle.cap_words.specs.Seen.{Seen, Slot, OpenSlot, ActorSlot, UnbornSlot, EventSlot, SponsorSlot, SpentSlot, slot_seen, altered, grown}
 use Rattle.instr_table.specs.declared.charge.Quota.{Quota}
 use Rattle.instr_table.specs.declared.charge.Quota.TheVariants.{Memory, Events, Cycles}
-use Rattle.instr_table.specs.declared.charge.Charge.{Charge}
 use Rattle.instr_table.specs.Code.{fetched}
 use Rattle.instr_table.specs.Event.{Made, Sent, Effects, no_effects, Effect, Nothing, Sends, Creates, Assigns, Becomes, Sponsors, Grants, Reclaims, Starts, Stops, with_effect}
 use Rattle.instr_table.specs.Sheet.{Account, account, short, spend, stop, runs, prepared, amount}
@@ -23,7 +22,7 @@ use Rattle.vm_turn.specs.Boot.{Image, Grant, booted}
 use Rattle.vm_turn.specs.Actors.{sent_at, is_idle, at_actor, remade, refilled, with_content, busy, resting, all_idle, settled}
 use Rattle.vm_turn.specs.Piece.{piece}
 use Rattle.vm_turn.specs.Turn.{signal_number, is_in_flight, first_to_go, dispatchable, entry, without, device_of, own_of, begin, delivered, refused, deliver, dispatch, numbered_from, finish, go_on, act, released, out_by, run_out, charged, step, go, unless_spent, turn}
-use Rattle.vm_turn.specs.Laws.{TurnsEnd, held_by_all, spent_by_all, KeepsToGrant, RunsKeepToGrant}
+use Rattle.vm_turn.specs.Laws.{TurnsEnd, held_by_all, spent_by_all, RunsKeepToGrant}
 use Rattle.vm_turn.specs.Run.{after, run, completes, completed, not_rest, unless_out}
 use Rattle.vm_turn.proofs.Sheets.{memory_in, memory_spent, total, total-append, cycles_in, events_in as events_kept_in, cycles_spent, events_spent, signals, count, Follows, spend-follows, stop-follows, effect-follows, prepares, IsHeld}
 use Rattle.vm_turn.proofs.Grants.{HeldBy, row_at-holds}
