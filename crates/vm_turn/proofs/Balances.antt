@@ -1,7 +1,6 @@
 -- Each account adds up after every run.
 use Rattle.std.proofs.Common.{◌≡◌, ℕ, ◌≤◌, List, [], ◌∷◌, Option, Some, None, Bool, true, false, if◌then◌else◌, refl, arith}
 use Rattle.std.proofs.Math.Nat.{le_refl}
-use Rattle.std.proofs.lemmas.Bool.Decides.{nat_tests}
 use Rattle.cap_words.specs.Words.{W, same_word}
 use Rattle.instr_table.specs.declared.charge.Charge.{Charge}
 use Rattle.instr_table.specs.declared.charge.Quota.{Quota}
@@ -20,7 +19,7 @@ use Rattle.vm_turn.specs.Piece.{piece}
 use Rattle.vm_turn.specs.Turn.{device_of, deliver, dispatch, dispatchable, act, released, out_by, run_out, charged, step, go, unless_spent, turn}
 use Rattle.vm_turn.specs.Run.{after}
 use Rattle.vm_turn.specs.Laws.{AddsUp, AccountsAddUp}
-use Rattle.vm_turn.proofs.Sheets.{IsHeld, reclaim-held}
+use Rattle.vm_turn.proofs.Sheets.{enough, IsHeld, reclaim-held}
 use Rattle.vm_turn.proofs.Grants.{HeldBy, row_at-holds}
 
 -- ---- one account is changed
@@ -49,14 +48,6 @@ empty w = record { memory = refl; events = refl; cycles = refl }
 
 pays-balances : (n : ℕ) (a : Amount) → n ≤ a.held → Balances a → Balances (pays n a)
 pays-balances n a h b = omega (arith, h, b)
-
-record Enough (a : Account) (c : Charge) : Type 0 where
-  in_memory : c.quads ≤ a.memory.held
-  in_events : c.events ≤ a.events.held
-  in_cycles : 1 ≤ a.cycles.held
-
-enough : (a : Account) (c : Charge) → short a c ≡ None → Enough a c
-enough a c h = record { in_memory = grind (arith, nat_tests); in_events = grind (arith, nat_tests); in_cycles = grind (arith, nat_tests) }
 
 paid-adds : (a : Account) (c : Charge) → short a c ≡ None → AddsUp a → AddsUp (paid c a)
 paid-adds a c h b =

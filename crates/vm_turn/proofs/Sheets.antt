@@ -92,12 +92,14 @@ follows-then a b c p m n j q k i l f g = record {
 
 -- ---- paying
 
+-- of each kind at least what is due is held
 pub record Enough (a : Account) (c : Charge) : Type 0 where
   pub in_memory : c.quads ≤ a.memory.held
   pub in_cycles : 1 ≤ a.cycles.held
   pub in_events : c.events ≤ a.events.held
 
-enough : (a : Account) (c : Charge) → short a c ≡ None → Enough a c
+-- a sponsor that is short of nothing
+pub enough : (a : Account) (c : Charge) → short a c ≡ None → Enough a c
 enough a c h = record { in_memory = grind (arith, nat_tests); in_cycles = grind (arith, nat_tests); in_events = grind (arith, nat_tests) }
 
 pub spend-follows : (rows : List Account) (w : W) (c : Charge) → short (account rows w) c ≡ None → Follows rows (spend rows w c) c.quads 1 c.events 0
