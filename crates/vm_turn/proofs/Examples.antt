@@ -291,6 +291,22 @@ both_create : second_first.roll ≡ Cap 6 ∷ Cap 2 ∷ Cap 3 ∷ Cap 10 ∷ Cap
 unfolding piece tree_to look_up watched
 both_create = refl
 
+-- ---- a busy actor
+
+-- the first actor sends two messages to itself and then one to `println`, and takes another code
+abbrev two_to_itself : Image
+two_to_itself = listing (
+    p 1 ∷ My (pos 0) ∷ ActorSend ∷ p 2 ∷ My (pos 0) ∷ ActorSend ∷ p 3 ∷ State (pos 1) ∷ ActorSend ∷
+    Push nil ∷ Push (Rom 29) ∷ ActorBecome ∷ End (pos 1) ∷ Debug ∷ End (pos 1) ∷ [])
+
+abbrev waited : Machine
+waited = watched (booted two_to_itself (grant 100 10 100) 3) (zeros 22)
+
+-- the second message waits for its actor, and the third goes before it
+later_goes_before : map (λ (e : Entry). e.message) waited.journal ≡ 0 ∷ 3 ∷ 1 ∷ 2 ∷ []
+unfolding piece tree_to look_up watched
+later_goes_before = refl
+
 -- ---- picks
 
 first_picks : picks 0 3 ≡ 15470 ∷ 18256 ∷ 53708 ∷ []
