@@ -1,0 +1,5 @@
+use Rattle.vm_turn.proofs.Balances.{accounts-add_up}
+use Rattle.vm_turn.proofs.laws.accounts_add_up.Goals as goal
+
+pub returns : goal.returns
+returns c = accounts-add_up
