@@ -97,7 +97,8 @@ impl Run {
         requires no_bound { bound ≡ None }
         ensures rest { result ≡ Ok Stop.Rest → Finishes self.old self.new (K.written out.old) (K.written out.new) }
         ensures broken { (result ≡ Ok Stop.Broken) ↔ IsTrue self.old.broken }
-        ensures unchanged { IsTrue self.old.broken → (self.new ≡ self.old) × (K.written out.new ≡ K.written out.old) }
+        ensures unchanged { IsTrue self.old.broken → (self.new ≡ self.old) × (K.written out.new ≡ K.written out.old)
+            × (K.faults out.new ≡ K.faults out.old) }
         ensures fault { OnErr result (Breaks self.old self.new (K.written out.old) (K.written out.new)) }
         ensures on_out { IfErr result (λ fault. fault.on_err ≡ false) }
         ensures out_cause { HasCause (K.faults out.old) (K.faults out.new) result }
