@@ -63,3 +63,12 @@ first-ready_goes_first s sheet flight messages q b h e =
     waiting-first (seen s) (sheet_of s sheet.rows) flight messages
     ∙ ap (first_begun (seen s) (sheet_of s sheet.rows)) e
     ∙ ready-first s sheet q.given q.ready b k
+
+-- the messages that are not in flight have sponsors where all have
+pub sponsored-waiting : (s : Seen) (ws : List W) (flight : List Lane) (ms : List Message) → Sponsored s ws ms → Sponsored s ws (waiting flight ms)
+sponsored-waiting s ws flight [] h = tt
+sponsored-waiting s ws flight (m ∷ ms) h = by (is_in_flight m.number flight) (sponsored-waiting s ws flight ms h.1)
+  where
+    by : (b : Bool) → Sponsored s ws (waiting flight ms) → Sponsored s ws (if b then waiting flight ms else m ∷ waiting flight ms)
+    by true r = r
+    by false r = (h.0, r)
