@@ -85,6 +85,9 @@ contains-either k n ns c = by c.0 c.1 c.2
     by zero h e = inl (sym e)
     by (suc i) h e = inr (i, omega arith, e)
 
+pub contains-high : (low high : ℕ) (ns : List ℕ) (n : ℕ) → IsAscending low high ns → Contains ns n → n < high
+contains-high low high ns n a c = let r = ascending-at low high ns c.0 n a c.1 in omega (arith, r.1, c.2)
+
 pub contains-low : (low high : ℕ) (ns : List ℕ) (n : ℕ) → IsAscending low high ns → Contains ns n → low ≤ n
 contains-low low high ns n a c = let r = ascending-at low high ns c.0 n a c.1 in omega (arith, r.0, c.2)
 

@@ -8,7 +8,7 @@ use Rattle.cap_words.specs.Words.{W, undef}
 use Rattle.cap_words.specs.Store.{Store}
 use Rattle.event_queue.specs.Pending.{Pending, event_of, IsAscending}
 use Rattle.event_queue.specs.Starts.{can_start, first_ready, StartsFirst, NoneStarts}
-use Rattle.event_queue.proofs.Ascending.{contains-first, contains-more, contains-either, contains-low}
+use Rattle.event_queue.proofs.Ascending.{contains-first, contains-more, contains-either, contains-low, contains-high}
 
 module _ (s : Store) (given : List W) where
   -- it is ready, it can start, and no ready one with a lower number can
@@ -67,8 +67,8 @@ pub record Answers (s : Store) (q : Pending) (r : Option ℕ) : Type 0 where
   pub first : IfSome r (λ n. StartsFirst s q n)
   pub none : IfNone r (NoneStarts s q)
 
-pub answers : (s : Store) (q : Pending) (high : ℕ) (r : Option ℕ) → IsAscending 0 high q.ready → r ≡ first_ready s q.given q.ready → Answers s q r
-answers s q high None a e = record { value = e; first = tt; none = none-starts s q.given q.ready (sym e) }
-answers s q high (Some n) a e =
+pub answers : (s : Store) (q : Pending) (high : ℕ) (r : Option ℕ) → high ≡ length q.given → IsAscending 0 high q.ready → r ≡ first_ready s q.given q.ready → Answers s q r
+answers s q high None l a e = record { value = e; first = tt; none = none-starts s q.given q.ready (sym e) }
+answers s q high (Some n) l a e =
     let k = first-starts s q.given 0 high q.ready n a (sym e) in
-    record { value = e; first = record { ready = k.0; starts = k.1; before = k.2 }; none = tt }
+    record { value = e; first = record { given = omega (arith, contains-high 0 high q.ready n a k.0, l); ready = k.0; starts = k.1; before = k.2 }; none = tt }

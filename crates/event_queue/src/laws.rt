@@ -1,6 +1,7 @@
 // What the ready numbers are to the written turn.
 
-ghost use Rattle.event_queue.specs.Waiting.{FirstReadyGoesFirst, StandsWhereBegun, StandsWhereDelivered, StandsWhereGone, StandsWhereEnded, StandsWhereAppended};
+ghost use Rattle.event_queue.specs.Waiting.{FirstReadyGoesFirst, StandsWhereBegun, StandsWhereDelivered, StandsWhereGone};
+ghost use Rattle.event_queue.specs.Waiting.{StandsWhereEnded, StandsWhereAppended};
 
 /// Where the ready numbers stand for the messages that are not in flight, and the sheet has each one's sponsor, the first ready message is
 /// the one that the written turn dispatches next.

@@ -31,7 +31,9 @@ impl Model for Queue {
 
     ghost view = { λ q. record { given = q.events.items; ready = q.ready.items; room = q.room } };
 
-    ghost invariant = { λ q. (vec_len q.events ≤ q.room) × (deque_len q.ready ≤ vec_len q.events) × (q.room ≤ vec_capacity q.events) × (q.room ≤ deque_capacity q.ready) × IsAscending 0 (vec_len q.events) q.ready.items × (q.room < 2 ^ 32) };
+    ghost invariant = { λ q. (vec_len q.events ≤ q.room) × (deque_len q.ready ≤ vec_len q.events)
+        × (q.room ≤ vec_capacity q.events) × (q.room ≤ deque_capacity q.ready)
+        × IsAscending 0 (vec_len q.events) q.ready.items × (q.room < 2 ^ 32) };
 }
 
 impl Queue {
@@ -67,6 +69,8 @@ impl Queue {
     }
 
     /// A message that is ready is so no more. The others keep their order.
+    ///
+    /// As many numbers move as there are ready ones before it, or after it where those are fewer.
     pub fn remove(&mut self, number: u32)
         requires { Contains self.old.ready number }
         ensures { self.new ≡ record self.old { ready = without number self.old.ready } }
@@ -114,7 +118,8 @@ impl Queue {
     pub fn next_ready(&self, after: Option<u32>) -> Option<u32>
         ensures value { result ≡ first_from (walks_from after) self.now.ready }
         ensures begins { after ≡ None → result ≡ slice_get self.now.ready 0 }
-        ensures goes_on { (place n : ℕ) → after ≡ Some n → slice_get self.now.ready place ≡ Some n → result ≡ slice_get self.now.ready (place + 1) }
+        ensures goes_on { (place n : ℕ) → after ≡ Some n → slice_get self.now.ready place ≡ Some n →
+            result ≡ slice_get self.now.ready (place + 1) }
     {
         self.ready.get(self.place_after(after)).copied()
     }
