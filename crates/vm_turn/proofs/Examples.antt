@@ -1,5 +1,5 @@
 -- Worked runs of small images.
-use Rattle.std.proofs.Common.{◌≡◌, ℕ, suc, pos, negsuc, List, [], ◌∷◌, ◌++◌, replicate, Some, None, refl, ◌∙◌}
+use Rattle.std.proofs.Common.{◌≡◌, ℕ, suc, pos, negsuc, List, [], ◌∷◌, ◌++◌, replicate, Option, Some, None, slice_get, refl, ◌∙◌}
 use Rattle.std.specs.Prelude.{map, codes}
 use Rattle.std.specs.Fmt.{digits}
 use Rattle.std.proofs.Math.Utf8.{encode}
@@ -15,7 +15,8 @@ use Rattle.instr_table.specs.Types.{look_up}
 use Rattle.instr_table.specs.Lists.{pair_quad}
 use Rattle.instr_table.specs.Spelling.{spelled}
 use Rattle.instr_table.specs.Sheet.{Amount, Account, Running, Stopped, account}
-use Rattle.instr_table.specs.Lane.{Lane}
+use Rattle.instr_table.specs.Lane.{Lane, begun}
+use Rattle.instr_table.specs.Authority.{effects_words}
 use Rattle.vm_turn.specs.declared.journal.Entry.{Entry}
 use Rattle.vm_turn.specs.declared.journal.Outcome.TheVariants.{Committed, Failed, RanOut}
 use Rattle.vm_turn.specs.declared.journal.Turn.{Turn as Answer}
@@ -25,6 +26,7 @@ use Rattle.vm_turn.specs.Boot.{booted}
 use Rattle.vm_turn.specs.Piece.{tree_to, piece}
 use Rattle.vm_turn.specs.Turn.{entry, turn}
 use Rattle.vm_turn.specs.Run.{after, run, answers, completed, picks}
+use Rattle.vm_turn.specs.Authority.{EventOf, made_since}
 
 -- an image that begins with its first cell
 abbrev image : List Quad → RomImage
@@ -144,8 +146,11 @@ unfolding piece tree_to look_up
 writes_no_actor = refl
 
 -- a created actor whose code is a device's number is no device
+abbrev creates : RomImage
+creates = listing (p 7 ∷ Push nil ∷ p 0 ∷ ActorCreate ∷ ActorSend ∷ End (pos 1) ∷ [])
+
 abbrev poses_as_a_device : Machine
-poses_as_a_device = run (listing (p 7 ∷ Push nil ∷ p 0 ∷ ActorCreate ∷ ActorSend ∷ End (pos 1) ∷ [])) (grant 100 10 100) 1 (zeros 10)
+poses_as_a_device = run creates (grant 100 10 100) 1 (zeros 10)
 
 writes_nothing : told poses_as_a_device ≡ tells [] (entry 0 Committed ∷ entry 1 (Failed (Fix (pos 16))) ∷ []) 6 1 7
 unfolding piece tree_to look_up
@@ -313,3 +318,29 @@ later_goes_before = refl
 
 first_picks : picks 0 3 ≡ 15470 ∷ 18256 ∷ 53708 ∷ []
 first_picks = refl
+
+-- ---- an event in a run
+
+abbrev lane_or : Option Lane → Lane
+lane_or None = begun 0 (record { sponsor = undef; actor = undef; code = undef; state = undef; message = undef })
+lane_or (Some l) = l
+
+-- the first actor creates one and sends it a message; this is its event, dispatched in the first turn, after five instructions
+abbrev first_lane : Lane
+first_lane = lane_or (slice_get (after (turn (booted creates (grant 100 10 100) 1) 0).0 (zeros 5)).flight 0)
+
+first_event : EventOf creates (grant 100 10 100) 1
+unfolding look_up
+first_event = record { before = []; message = record { number = 0; event = Cap 7 }; chosen = refl; pick = 0; begins = refl; since = zeros 5; place = 0; lane = first_lane; flies = refl; number_is = refl }
+
+it_commits : (turn (after (turn (booted creates (grant 100 10 100) 1) 0).0 (zeros 5)) 0).1 ≡ Finished (entry 0 Committed)
+unfolding look_up
+it_commits = refl
+
+it_made_an_actor : made_since (turn (booted creates (grant 100 10 100) 1) 0).0 0 (zeros 5) ≡ Cap 11 ∷ []
+unfolding look_up
+it_made_an_actor = refl
+
+it_hands_on : effects_words (Cap 0) first_lane.effects ≡ Cap 11 ∷ Rom 1 ∷ Fix (pos 0) ∷ Cap 11 ∷ Fix (pos 7) ∷ []
+unfolding look_up
+it_hands_on = refl
