@@ -356,7 +356,7 @@ waited = watched (booted two_to_itself (grant 100 10 100) 3) (zeros 22)
 
 -- the second message waits for its actor while the first is in flight
 abbrev waiting : Machine
-waiting = watched (booted two_to_itself (grant 100 10 100) 3) (zeros 15)
+waiting = watched (booted two_to_itself (grant 100 10 100) 3) (zeros 16)
 
 first_in_flight : numbers waiting.flight ≡ 1 ∷ []
 unfolding piece tree_to look_up watched
