@@ -23,7 +23,7 @@ use Rattle.vm_turn.specs.Actors.{sent_at}
 use Rattle.vm_turn.specs.Turn.{signal_number, dispatchable, without, own_of, begin, delivered, finish, go_on, released, run_out, turn, numbered_from}
 use Rattle.vm_turn.specs.Run.{after, run}
 use Rattle.vm_turn.specs.Sound.{Sound, numbers, Other, Has}
-use Rattle.vm_turn.specs.Authority.{LaneTaken, WordsTaken, made_words, made_by, made_in, made_at, made_since, had, present, EventsKeepAuthority, CommitsKeepAuthority}
+use Rattle.vm_turn.specs.Authority.{LaneTaken, WordsTaken, new_words, made_by, made_in, made_at, made_since, had, present, EventsKeepAuthority, CommitsKeepAuthority}
 use Rattle.vm_turn.proofs.Bound.{dispatchable-chosen}
 use Rattle.vm_turn.proofs.Numbers.{numbers-set}
 use Rattle.vm_turn.proofs.Slots.{Alike, alike-busy, alike-content, alike-settled, alike-then, alike-refl}
@@ -62,23 +62,23 @@ at-end (x ∷ ls) (suc j) new k h = at-end ls j new k h
 
 -- ---- what an instruction makes
 
-made-among : (n i : ℕ) (xs : List Slot) → IsTrue (is_made (slice_get xs i)) → Among (Cap (n + i)) (made_words n xs)
+made-among : (n i : ℕ) (xs : List Slot) → IsTrue (is_made (slice_get xs i)) → Among (Cap (n + i)) (new_words n xs)
 made-among n i [] h = cc
 made-among n zero (x ∷ xs) h = by (is_made (Some x)) h
   where
-    by : (b : Bool) → b ≡ true → Among (Cap (n + 0)) (if b then Cap n ∷ made_words (suc n) xs else made_words (suc n) xs)
+    by : (b : Bool) → b ≡ true → Among (Cap (n + 0)) (if b then Cap n ∷ new_words (suc n) xs else new_words (suc n) xs)
     by true e = let z : n + 0 ≡ n = omega arith in inl (ap Cap z)
     by false e = cc
 made-among n (suc i) (x ∷ xs) h =
     let z : suc n + i ≡ n + suc i = omega arith in
-    by (is_made (Some x)) (subst (λ (k : ℕ). Among (Cap k) (made_words (suc n) xs)) z (made-among (suc n) i xs h))
+    by (is_made (Some x)) (subst (λ (k : ℕ). Among (Cap k) (new_words (suc n) xs)) z (made-among (suc n) i xs h))
   where
-    by : (b : Bool) → Among (Cap (n + suc i)) (made_words (suc n) xs) → Among (Cap (n + suc i)) (if b then Cap n ∷ made_words (suc n) xs else made_words (suc n) xs)
+    by : (b : Bool) → Among (Cap (n + suc i)) (new_words (suc n) xs) → Among (Cap (n + suc i)) (if b then Cap n ∷ new_words (suc n) xs else new_words (suc n) xs)
     by true later = inr later
     by false later = later
 
-is-made : (s : Seen) (g : Going) (w : W) → IsMadeBy s g w → Among w (made_words (next_quad s) g.made)
-is-made s g w m = subst (λ (v : W). Among v (made_words (next_quad s) g.made)) (sym m.1) (made-among (next_quad s) m.0 g.made m.2)
+is-made : (s : Seen) (g : Going) (w : W) → IsMadeBy s g w → Among w (new_words (next_quad s) g.made)
+is-made s g w m = subst (λ (v : W). Among v (new_words (next_quad s) g.made)) (sym m.1) (made-among (next_quad s) m.0 g.made m.2)
 
 -- ---- reach
 
@@ -233,7 +233,7 @@ module _ (P : W → Type 0) (number : ℕ) where
         by (inr old) = holds-old [] (begin s m.number (sent_at s.store m.event)).store j k (begin-reads s m.number (sent_at s.store m.event)) old e w r
 
     module _ (pick : ℕ) (l : Lane) (g : Going) (at : IsPicked s pick l) (is : (lane_row s.store s.sheet l).outcome ≡ Goes g) where
-      made-is : l.number ≡ number → made_at s number pick Stepped ≡ made_words (next_quad s.store) g.made
+      made-is : l.number ≡ number → made_at s number pick Stepped ≡ new_words (next_quad s.store) g.made
       made-is e =
           ap (λ (o : Option Lane). made_in s number o) at
           ∙ (ap (λ (b : Bool). if b then made_by s.store (lane_row s.store s.sheet l).outcome else []) (nat-same l.number number e)

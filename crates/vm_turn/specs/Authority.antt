@@ -35,13 +35,13 @@ pub record WordsTaken (s : State) : Type 0 where
 -- ---- what an event makes
 
 -- the words of the actors and sponsors among these quads, which are taken from number n on
-abbrev pub made_words : ℕ → List Slot → List W
-made_words n [] = []
-made_words n (x ∷ xs) = if is_made (Some x) then Cap n ∷ made_words (suc n) xs else made_words (suc n) xs
+abbrev pub new_words : ℕ → List Slot → List W
+new_words n [] = []
+new_words n (x ∷ xs) = if is_made (Some x) then Cap n ∷ new_words (suc n) xs else new_words (suc n) xs
 
 -- those that an instruction makes
 abbrev pub made_by : Seen → Outcome → List W
-made_by s (Goes g) = made_words (next_quad s) g.made
+made_by s (Goes g) = new_words (next_quad s) g.made
 made_by s (Faults w) = []
 made_by s Commits = []
 
