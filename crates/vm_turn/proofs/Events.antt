@@ -12,8 +12,7 @@ use Rattle.instr_table.specs.Event.{Sent, Effects, Effect, Nothing, Sends, Creat
 use Rattle.instr_table.specs.Outcome.{events_in}
 use Rattle.instr_table.specs.Making.{MadeWith}
 use Rattle.vm_effects.specs.Gathered.{sent_words}
-use Rattle.vm_turn.specs.State.{State}
-use Rattle.vm_turn.specs.Sound.{times, places, NamesOne}
+use Rattle.vm_turn.specs.Sound.{times, NamesOne}
 use Rattle.vm_turn.proofs.Sums.{Measure}
 use Rattle.vm_turn.proofs.Sheets.{prepares}
 

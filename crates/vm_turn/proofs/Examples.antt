@@ -16,7 +16,6 @@ use Rattle.instr_table.specs.Lists.{pair_quad}
 use Rattle.instr_table.specs.Spelling.{spelled}
 use Rattle.instr_table.specs.Sheet.{Amount, Account, Running, Stopped, account}
 use Rattle.instr_table.specs.Lane.{Lane, begun}
-use Rattle.instr_table.specs.Authority.{effects_words}
 use Rattle.vm_turn.specs.declared.journal.Entry.{Entry}
 use Rattle.vm_turn.specs.declared.journal.Outcome.TheVariants.{Committed, Failed, RanOut}
 use Rattle.vm_turn.specs.declared.journal.Turn.{Turn as Answer}
@@ -26,7 +25,7 @@ use Rattle.vm_turn.specs.Boot.{booted}
 use Rattle.vm_turn.specs.Piece.{tree_to, piece}
 use Rattle.vm_turn.specs.Turn.{entry, turn}
 use Rattle.vm_turn.specs.Run.{after, run, answers, completed, picks}
-use Rattle.vm_turn.specs.Authority.{EventOf, made_since}
+use Rattle.vm_turn.specs.Authority.{EventOf, made_since, handed_on}
 
 -- an image that begins with its first cell
 abbrev image : List Quad → RomImage
@@ -394,6 +393,6 @@ it_made_an_actor : made_since (turn (booted creates (grant 100 10 100) 1) 0).0 0
 unfolding look_up
 it_made_an_actor = refl
 
-it_hands_on : effects_words (Cap 0) first_lane.effects ≡ Cap 11 ∷ Rom 1 ∷ Fix (pos 0) ∷ Cap 11 ∷ Fix (pos 7) ∷ []
+it_hands_on : handed_on (turn (after (turn (booted creates (grant 100 10 100) 1) 0).0 (zeros 5)) 0).0.store first_lane ≡ Ram 5 ∷ Rom 16 ∷ Cap 11 ∷ Rom 1 ∷ Fix (pos 0) ∷ Cap 11 ∷ Fix (pos 7) ∷ []
 unfolding look_up
 it_hands_on = refl

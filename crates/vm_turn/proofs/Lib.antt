@@ -16,3 +16,5 @@ pub mod Rights
 pub mod Changed
 pub mod Runs
 pub mod Started
+pub mod FlightActors
+pub mod Commits

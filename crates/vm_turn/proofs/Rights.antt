@@ -10,9 +10,9 @@ use Rattle.instr_table.specs.Lists.{next_quad}
 use Rattle.instr_table.specs.Event.{Own, Sent, Effects, no_effects}
 use Rattle.instr_table.specs.Sheet.{Account, spend, stop, prepared}
 use Rattle.instr_table.specs.Outcome.{Going, Outcome, Goes}
-use Rattle.instr_table.specs.Lane.{Lane, values, begun, lane_row, gone, after_going}
+use Rattle.instr_table.specs.Lane.{Lane, begun, lane_row, gone, after_going}
 use Rattle.instr_table.specs.Reach.{Reached, given, inside, Reach, is_made}
-use Rattle.instr_table.specs.Authority.{effects_words, lane_words, IsTaken, AllTaken, IsMadeBy}
+use Rattle.instr_table.specs.Authority.{lane_words, AllTaken, IsMadeBy}
 use Rattle.instr_table.proofs.Authorities.{keeps-authority}
 use Rattle.vm_sponsor.specs.declared.amounts.Amounts.{Amounts}
 use Rattle.vm_turn.specs.declared.journal.Outcome.{Outcome as End}
@@ -23,7 +23,7 @@ use Rattle.vm_turn.specs.Actors.{sent_at}
 use Rattle.vm_turn.specs.Turn.{signal_number, dispatchable, without, own_of, begin, delivered, finish, go_on, released, run_out, turn, numbered_from}
 use Rattle.vm_turn.specs.Run.{after, run}
 use Rattle.vm_turn.specs.Sound.{Sound, numbers, Other, Has}
-use Rattle.vm_turn.specs.Authority.{LaneTaken, WordsTaken, new_words, made_by, made_in, made_at, made_since, had, present, EventsKeepAuthority, CommitsKeepAuthority}
+use Rattle.vm_turn.specs.Authority.{LaneTaken, WordsTaken, new_words, made_by, made_in, made_at, made_since, had, EventsKeepAuthority}
 use Rattle.vm_turn.proofs.Bound.{dispatchable-chosen}
 use Rattle.vm_turn.proofs.Numbers.{numbers-set}
 use Rattle.vm_turn.proofs.Slots.{Alike, alike-busy, alike-content, alike-settled, alike-then, alike-refl}
@@ -31,8 +31,8 @@ use Rattle.vm_turn.proofs.Sponsors.{among-left, among-right}
 use Rattle.vm_turn.proofs.Places.{other-at, has-place, message-given}
 use Rattle.vm_turn.proofs.RunsSound.{run-sound}
 use Rattle.vm_turn.proofs.TurnCases.{IsPicked, turn-by}
-use Rattle.vm_turn.proofs.Taken.{Reads, every-get, every-right, reached-back, alike-reads, going-reads}
-use Rattle.vm_turn.proofs.WordsKept.{begun-taken, turn-taken, run-taken, after-taken}
+use Rattle.vm_turn.proofs.Taken.{Reads, every-get, reached-back, alike-reads, going-reads}
+use Rattle.vm_turn.proofs.WordsKept.{begun-taken, turn-taken, run-taken}
 
 -- ---- lists
 
@@ -83,7 +83,7 @@ is-made s g w m = subst (λ (v : W). Among v (new_words (next_quad s) g.made)) (
 -- ---- reach
 
 -- what is reached from fewer words is reached from more
-reached-more : (s : Seen) (vs ws : List W) → ((w : W) → Among w vs → Among w ws) → (w : W) → Reached s vs w → Reached s ws w
+pub reached-more : (s : Seen) (vs ws : List W) → ((w : W) → Among w vs → Among w ws) → (w : W) → Reached s vs w → Reached s ws w
 reached-more s vs ws f w (given a) = given (f w a)
 reached-more s vs ws f w (inside {w = u} r e a) = inside (reached-more s vs ws f u r) e a
 
@@ -167,7 +167,7 @@ module _ (number : ℕ) (s : State) (u : Underway number s) where
 finish-reads : (s : State) (i : ℕ) (l : Lane) (sheet : List Account) (x : Effects) (end : End) → Reads s.store (finish s i l sheet x end).store
 finish-reads s i l sheet x end = alike-reads s.store _ (alike-settled s.store l.own.actor x)
 
-released-alike : (o : Option W) (kind : Quota) (u : State) → Alike u.store (released o kind u).store
+pub released-alike : (o : Option W) (kind : Quota) (u : State) → Alike u.store (released o kind u).store
 released-alike None kind u = alike-refl u.store
 released-alike (Some w) kind u = alike-content u.store w (Fix (pos (signal_number kind)))
 
@@ -350,14 +350,3 @@ pub events-keep_authority : EventsKeepAuthority
 events-keep_authority image grant lanes valid e w r =
     let s = run image grant lanes e.before in
     flight-holds s (run-sound image grant lanes e.before) (run-taken image grant lanes e.before valid) e.message e.chosen e.pick e.begins e.since e.place e.lane e.flies e.number_is w r
-
-pub commits-keep_authority : CommitsKeepAuthority
-commits-keep_authority image grant lanes valid e last commits w r =
-    let s = run image grant lanes e.before in
-    let t = present e in
-    let taken = after-taken (turn s e.pick).0 e.since (turn-taken s e.pick (run-taken image grant lanes e.before valid)) in
-    let l = every-get (LaneTaken (next_quad t.store)) t.flight e.place e.lane taken.flight e.flies in
-    let ws = effects_words e.lane.own.sponsor e.lane.effects in
-    let words = every-right (IsTaken (next_quad t.store)) (values e.lane.stack) ws l.words.1.1.1.1.1.1 in
-    let b = reached-back t.store taken.image taken.cells (turn t last).0.store ws (turn-reads t last) words w r.1 in
-    events-keep_authority image grant lanes valid e w (r.0, reached-more t.store ws (lane_words e.lane) (λ v a. inr (inr (inr (inr (inr (among-right v (values e.lane.stack) ws a)))))) w b)

@@ -30,7 +30,7 @@ pub among-right : (w : W) (vs ws : List W) → Among w ws → Among w (vs ++ ws)
 among-right w [] ws a = a
 among-right w (v ∷ vs) ws a = inr (among-right w vs ws a)
 
-among-of : (w : W) (vs ws : List W) → Among w (vs ++ ws) → Among w vs ⊎ Among w ws
+pub among-of : (w : W) (vs ws : List W) → Among w (vs ++ ws) → Among w vs ⊎ Among w ws
 among-of w [] ws a = inr a
 among-of w (v ∷ vs) ws (inl e) = inl (inl e)
 among-of w (v ∷ vs) ws (inr a) = by (among-of w vs ws a)

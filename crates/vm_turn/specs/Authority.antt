@@ -15,7 +15,7 @@ use Rattle.vm_turn.specs.declared.journal.Outcome.TheVariants.{Committed}
 use Rattle.vm_turn.specs.declared.journal.Turn.{Turn as Answer}
 use Rattle.vm_turn.specs.declared.journal.Turn.TheVariants.{Dispatched, Stepped, Finished, Rest, Spent}
 use Rattle.vm_turn.specs.State.{Message, State}
-use Rattle.vm_turn.specs.Actors.{sent_at}
+use Rattle.vm_turn.specs.Actors.{sent_at, behaviour_at}
 use Rattle.vm_turn.specs.Turn.{dispatchable, entry, own_of, turn}
 use Rattle.vm_turn.specs.Run.{after, run}
 
@@ -116,11 +116,14 @@ EventsKeepAuthority =
     → (e : EventOf image grant lanes) (w : W)
     → Reach (present e).store (lane_words e.lane) w → MayHave e w
 
--- and after the turn that commits it those alone are got at from what it hands on: from its actor's new behaviour, from the actors that it
--- created, with their states and codes, and from the targets and contents of the messages that it sent, with the sponsors that they are
--- under where these are not the event's own
+-- what an event has handed on, in the store after its commit: its actor's state and code, the actors that it created with theirs, and the
+-- targets and contents of the messages that it sent, with the sponsors that they are under where these are not its own
+abbrev pub handed_on : Seen → Lane → List W
+handed_on s l = (behaviour_at s l.own.actor).state ∷ (behaviour_at s l.own.actor).code ∷ effects_words l.own.sponsor l.effects
+
+-- and after the turn that commits it those alone are got at from what it handed on
 abbrev pub CommitsKeepAuthority : Type 0
 CommitsKeepAuthority =
     (image : RomImage) (grant : Amounts) (lanes : ℕ) → IsTrue (is_image image.boot image.cells)
     → (e : EventOf image grant lanes) (last : ℕ) → (turn (present e) last).1 ≡ Finished (entry e.message.number Committed)
-    → (w : W) → Reach (turn (present e) last).0.store (effects_words e.lane.own.sponsor e.lane.effects) w → MayHave e w
+    → (w : W) → Reach (turn (present e) last).0.store (handed_on (turn (present e) last).0.store e.lane) w → MayHave e w

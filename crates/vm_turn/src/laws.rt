@@ -46,8 +46,8 @@ pub fn events_keep_authority()
     ensures { EventsKeepAuthority }
 {}
 
-/// What an event hands on when it commits gets at no actor or sponsor but those: its actor's new behaviour, the states and codes of the
-/// actors that it created, and the targets, contents and other sponsors of the messages that it sent.
+/// After the turn that commits an event, what it handed on gets at no actor or sponsor but those: its actor's state and code, the actors that
+/// it created with theirs, and the targets, contents and other sponsors of the messages that it sent.
 pub fn commits_keep_authority()
     ensures { CommitsKeepAuthority }
 {}

@@ -9,9 +9,9 @@
 //! no event stands at two places. `events_keep_authority` and `commits_keep_authority` say what an event gets at and hands on: what it had
 //! at its dispatch and what it made since; `events_have_begun` says that there was a dispatch.
 //!
-//! `specs/Sound.antt` and `WordsTaken` in `specs/Authority.antt` are what every turn keeps. Crates above find that in `proofs/Bound.antt`,
-//! `proofs/RunsSound.antt` and `proofs/WordsKept.antt`, a turn by its cases in `proofs/TurnCases.antt`, and in `proofs/Places.antt` what
-//! they say of single messages, events and signals.
+//! What every turn keeps is `Sound` and `FlightSound` in `specs/Sound.antt`, and `WordsTaken` in `specs/Authority.antt`. Crates above cite
+//! `proofs/Bound.antt`, `proofs/FlightActors.antt` and `proofs/WordsKept.antt` for that, `proofs/RunsSound.antt` for boot and runs,
+//! `proofs/TurnCases.antt` for a turn by its cases, and `proofs/Places.antt` for what it says of single messages, events and signals.
 #![tactic(auto)]
 
 mod journal;

@@ -1,4 +1,4 @@
-use Rattle.vm_turn.proofs.Rights.{commits-keep_authority}
+use Rattle.vm_turn.proofs.Commits.{commits-keep_authority}
 use Rattle.vm_turn.proofs.laws.commits_keep_authority.Goals as goal
 
 pub returns : goal.returns
