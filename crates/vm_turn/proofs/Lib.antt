@@ -1,8 +1,20 @@
 mod Examples
+pub mod Sums
 pub mod Sheets
-pub mod Grants
 pub mod Numbers
+pub mod Grants
+pub mod Slots
+pub mod Events
+pub mod Sponsors
 pub mod Bound
-pub mod Balances
+pub mod TurnCases
+pub mod Taken
+pub mod WordsKept
+pub mod Places
+pub mod RunsSound
+pub mod Rights
 pub mod Changed
 pub mod Runs
+pub mod Started
+pub mod FlightActors
+pub mod Commits

@@ -1,7 +1,8 @@
 // What is so of every run.
 
-ghost use Rattle.vm_turn.specs.Laws.{TurnsEnd, AccountsAddUp, RunsKeepToGrant};
+ghost use Rattle.vm_turn.specs.Laws.{TurnsEnd, AccountsAddUp, GrantsAreConserved, EventsStandOnce};
 ghost use Rattle.vm_turn.specs.Changes.{TurnsChange};
+ghost use Rattle.vm_turn.specs.Authority.{EventsHaveBegun, EventsKeepAuthority, CommitsKeepAuthority};
 
 /// A machine with C cycles and E events completes at most `C + 2 (E + 1)` turns, whatever its image, its lanes and its picks: each
 /// completed turn spends a cycle, dispatches a message or ends one.
@@ -14,10 +15,16 @@ pub fn accounts_add_up()
     ensures { AccountsAddUp }
 {}
 
-/// After every run no more is spent and held of each kind, over all sponsors, than was granted; and the quads that are taken leave room for
+/// After every run as much of each kind is spent and held, over all sponsors, as was granted; and the quads that are taken leave room for
 /// the memory that is held, in a store with room for the grant and the eight quads of boot.
-pub fn runs_keep_to_grant()
-    ensures { RunsKeepToGrant }
+pub fn grants_are_conserved()
+    ensures { GrantsAreConserved }
+{}
+
+/// After every run the event of a word stands in one place at most: it is an unfinished message's, or an event in flight sent it, or it is
+/// a prepared signal.
+pub fn events_stand_once()
+    ensures { EventsStandOnce }
 {}
 
 /// What a turn changes is told by its answer. An instruction that goes on changes its own lane, new quads and the sheet. An event that
@@ -25,4 +32,22 @@ pub fn runs_keep_to_grant()
 /// roll, output or other message changes. An event that runs out also stops its sponsor, whose prepared signal becomes a message.
 pub fn turns_change()
     ensures { TurnsChange }
+{}
+
+/// Each event that is in flight in a run was dispatched in one of its turns.
+pub fn events_have_begun()
+    ensures { EventsHaveBegun }
+{}
+
+/// At any moment of its flight an event gets at no actor or sponsor but those that its actor's code and state and its message got at when it
+/// was dispatched, its own actor, and those that it made since. So it is of each word on its stack, as the controller that it gives to
+/// `sponsor start`.
+pub fn events_keep_authority()
+    ensures { EventsKeepAuthority }
+{}
+
+/// After the turn that commits an event, what it handed on gets at no actor or sponsor but those: its actor's state and code, the actors that
+/// it created with theirs, and the targets, contents and other sponsors of the messages that it sent.
+pub fn commits_keep_authority()
+    ensures { CommitsKeepAuthority }
 {}
