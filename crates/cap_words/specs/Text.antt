@@ -14,6 +14,10 @@ is_name bytes = nat_le 1 (length bytes) && nat_le (length bytes) 128 && list_all
 abbrev pub is_delimiter : ℕ → Bool
 is_delimiter b = list_any (λ d. nat_eq d b) (codes "()[],.=:\"$\\#")
 
--- the bytes of a run in a text of the language: those of a name, with no delimiter
+-- a byte of a run: a visible one that is no delimiter
+abbrev pub is_run_byte : ℕ → Bool
+is_run_byte b = is_visible b && not (is_delimiter b)
+
+-- a run: 1 to 128 of these bytes
 abbrev pub is_run : List ℕ → Bool
-is_run bytes = is_name bytes && not (list_any is_delimiter bytes)
+is_run bytes = nat_le 1 (length bytes) && nat_le (length bytes) 128 && list_all is_run_byte bytes

@@ -1,0 +1,18 @@
+//! What the devices write: `println` a word's text, and `say` a list of characters in UTF-8, each with a line feed behind it.
+//!
+//! `deliver` checks a message's whole tree before it writes its first byte, so a message that is refused writes nothing. It walks the tree
+//! with the stack of a `Scratch`, which takes its memory once.
+#![tactic(auto)]
+
+mod cells;
+mod delivery;
+mod name;
+mod speech;
+mod text;
+mod tree;
+
+pub use delivery::{Done, Scratch, WriteFault, deliver};
+pub use std::alloc::AllocError as NoMemory;
+
+#[cfg(test)]
+mod tests;
