@@ -1,11 +1,12 @@
 -- Trees of words: what a word's pair, or its lack, says of its tree.
-use Rattle.std.proofs.Common.{◌≡◌, ℕ, zero, suc, ◌+◌, ◌<◌, ◌≤◌, Bool, true, false, if◌then◌else◌, Option, Some, None, is_some, nat_le, refl, sym, ap, ◌∙◌, arith}
+use Rattle.std.proofs.Common.{◌≡◌, ℕ, zero, suc, ◌+◌, ◌<◌, ◌≤◌, Bool, true, false, if◌then◌else◌, Option, Some, None, is_some, nat_le, refl, sym, ap, ◌∙◌, subst, arith}
 use Rattle.std.proofs.lemmas.Bool.Decides.{nat_tests}
 use Rattle.cap_words.specs.declared.word.Quad.{Quad}
 use Rattle.cap_words.specs.Words.{W}
 use Rattle.cap_words.specs.Seen.{Seen, cell_seen}
 use Rattle.instr_table.specs.Lists.{pair_in}
 use Rattle.vm_turn.specs.Piece.{Tree, Leaf, Fork, leaves, most_leaves, forked, tree_to, small, tree}
+use Rattle.vm_devices.specs.Laws.{Unfolds, TreesAreUnfoldings}
 use Rattle.vm_devices.specs.Texts.{tree_or_leaf, tree_of, IsSmall, leaves_of}
 
 leaves_some : (t : Tree) → 0 < leaves t
@@ -28,27 +29,35 @@ tree_to-zero s w = refl
 
 -- ---- a tree has no more levels than leaves
 
-abbrev Climbs : Seen → ℕ → ℕ → Type 0
-Climbs s n m = (w : W) (t : Tree) → tree_to s n w ≡ Some t → leaves t ≤ m → tree_to s m w ≡ Some t
-
-climb_fork : (s : Seen) (n m : ℕ) (w : W) (q : Quad) (t : Tree) (a b : Option Tree) → pair_in (cell_seen s w) ≡ Some q → tree_to s n q.x ≡ a → tree_to s n q.y ≡ b → forked a b ≡ Some t → leaves t ≤ suc m → Climbs s n m → tree_to s (suc m) w ≡ Some t
-climb_fork s n m w q t None b h ea eb e few up = cc
-climb_fork s n m w q t (Some u) None h ea eb e few up = cc
-climb_fork s n m w q t (Some u) (Some v) h ea eb e few up =
+unfolds_fork : (s : Seen) (w : W) (q : Quad) (t : Tree) (a b : Option Tree) → pair_in (cell_seen s w) ≡ Some q → ((u : Tree) → a ≡ Some u → Unfolds s q.x u) → ((u : Tree) → b ≡ Some u → Unfolds s q.y u) → forked a b ≡ Some t → Unfolds s w t
+unfolds_fork s w q t None b h x y e = cc
+unfolds_fork s w q t (Some u) None h x y e = cc
+unfolds_fork s w q t (Some u) (Some v) h x y e =
     let is : Fork u v ≡ t = cc in
-    let sum : leaves u + leaves v ≡ leaves t = ap leaves is in
-    let x : tree_to s m q.x ≡ Some u = up q.x u ea (omega (arith, leaves_some v)) in
-    let y : tree_to s m q.y ≡ Some v = up q.y v eb (omega (arith, leaves_some u)) in
-    tree_to-pair s m w q h ∙ (λ i. forked (x i) (y i)) ∙ e
+    subst (Unfolds s w) is (q, h, x u refl, y v refl)
 
-climb : (s : Seen) (n m : ℕ) (w : W) (t : Tree) (o : Option Quad) → pair_in (cell_seen s w) ≡ o → tree_to s (suc n) w ≡ Some t → leaves t ≤ suc m → Climbs s n m → tree_to s (suc m) w ≡ Some t
-climb s n m w t None h e few up = tree_to-none s m w h ∙ sym (tree_to-none s n w h) ∙ e
-climb s n m w t (Some q) h e few up = climb_fork s n m w q t (tree_to s n q.x) (tree_to s n q.y) h refl refl (sym (tree_to-pair s n w q h) ∙ e) few up
+-- whatever is found in some levels is what the word unfolds to
+unfolds : (s : Seen) (n : ℕ) (w : W) (t : Tree) → tree_to s n w ≡ Some t → Unfolds s w t
+unfolds s zero w t e = let z = tree_to-zero s w in cc
+unfolds s (suc n) w t e = at_cell (pair_in (cell_seen s w)) refl (unfolds s n)
+  where
+    at_cell : (o : Option Quad) → pair_in (cell_seen s w) ≡ o → ((v : W) (u : Tree) → tree_to s n v ≡ Some u → Unfolds s v u) → Unfolds s w t
+    at_cell None h up =
+        let is : Leaf w ≡ t = let leaf = tree_to-none s n w h in cc in
+        subst (Unfolds s w) is (refl, h)
+    at_cell (Some q) h up = unfolds_fork s w q t (tree_to s n q.x) (tree_to s n q.y) h (up q.x) (up q.y) (sym (tree_to-pair s n w q h) ∙ e)
 
-climbs : (s : Seen) (n m : ℕ) → Climbs s n m
-climbs s zero m w t e few = let z = tree_to-zero s w in cc
-climbs s (suc n) zero w t e few = absurd (omega (arith, leaves_some t))
-climbs s (suc n) (suc m) w t e few = climb s n m w t (pair_in (cell_seen s w)) refl e few (climbs s n m)
+-- and it is found in as many levels as it has leaves
+found : (s : Seen) (n : ℕ) (w : W) (t : Tree) → Unfolds s w t → leaves t ≤ n → tree_to s n w ≡ Some t
+found s zero w t is few = absurd (omega (arith, leaves_some t))
+found s (suc n) w (Leaf v) is few = tree_to-none s n w is.1 ∙ ap (λ (u : W). Some (Leaf u)) (sym is.0)
+found s (suc n) w (Fork a b) is few =
+    let x : tree_to s n is.0.x ≡ Some a = found s n is.0.x a is.2 (omega (arith, leaves_some b)) in
+    let y : tree_to s n is.0.y ≡ Some b = found s n is.0.y b is.3 (omega (arith, leaves_some a)) in
+    tree_to-pair s n w is.0 is.1 ∙ (λ i. forked (x i) (y i))
+
+climbs : (s : Seen) (n m : ℕ) (w : W) (t : Tree) → tree_to s n w ≡ Some t → leaves t ≤ m → tree_to s m w ≡ Some t
+climbs s n m w t e few = found s m w t (unfolds s n w t e) few
 
 -- ---- trees that are not too large
 
@@ -168,3 +177,14 @@ none_there s w h = there (tree s w) h
     there : (o : Option Tree) → is_some o ≡ false → o ≡ None
     there None e = refl
     there (Some t) e = cc
+
+-- ---- which trees there are
+
+pub trees_are : TreesAreUnfoldings
+trees_are s w t = (there, back)
+  where
+    there : tree s w ≡ Some t → Unfolds s w t × (leaves t ≤ most_leaves)
+    there e = let few = few_of (tree_to s most_leaves w) t e in (unfolds s most_leaves w t few.is, few.few)
+
+    back : Unfolds s w t × (leaves t ≤ most_leaves) → tree s w ≡ Some t
+    back h = small_of (tree_to s most_leaves w) t (found s most_leaves w t h.0 h.1) h.1
