@@ -52,7 +52,7 @@ pub record Fits (s : Seen) (w : W) (ws : List W) (count : ℕ) : Type 0 where
   pub rest : AreSmall s ws
   pub few : count + (leaves_of s w + leaves_on s ws) ≤ most_leaves + 1 + length ws
 
-abbrev length_push : (ws : List W) (v : W) → length (ws ++ v ∷ []) ≡ length ws + 1
+pub length_push : (ws : List W) (v : W) → length (ws ++ v ∷ []) ≡ length ws + 1
 length_push ws v = length-append ws (v ∷ [])
 
 module _ (s : Seen) (w : W) (ws : List W) (count : ℕ) where

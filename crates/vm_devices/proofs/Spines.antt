@@ -1,5 +1,5 @@
 -- What is left to write of a tree: the word in hand, and the tails that wait on a stack.
-use Rattle.std.proofs.Common.{◌≡◌, ℕ, ◌+◌, ◌-◌, ◌*◌, ◌<◌, ◌≤◌, Bool, true, false, List, [], ◌∷◌, ◌++◌, length, codes, Option, Some, None, refl, sym, ap, ◌∙◌, subst, arith, append_assoc, length-append}
+use Rattle.std.proofs.Common.{◌≡◌, ℕ, ◌+◌, ◌-◌, ◌*◌, ◌<◌, ◌≤◌, Bool, true, false, List, [], ◌∷◌, ◌++◌, length, codes, Option, Some, None, refl, sym, ap, ◌∙◌, subst, arith, append_assoc}
 use Rattle.std.proofs.lemmas.List.{append-nil}
 use Rattle.hum_outside.specs.Outside.{appended, AppendsFront}
 use Rattle.cap_words.specs.declared.word.Quad.{Quad}
@@ -9,7 +9,7 @@ use Rattle.instr_table.specs.Lists.{pair_in}
 use Rattle.vm_turn.specs.Piece.{Tree, Leaf, Fork, most_leaves, tree_text}
 use Rattle.vm_devices.specs.Texts.{IsSmall, tree_of, leaves_of, leaf_text, text_of, opening, closing, item_text}
 use Rattle.vm_devices.proofs.Trees.{leaf_tree, leaf_leaves, leaves_of-few, leaves_of-some, forked_of}
-use Rattle.vm_devices.proofs.Counts.{AreSmall, small_push, small_pop, leaves_on, leaves_on-push, leaves_on-none, leaves_on-more}
+use Rattle.vm_devices.proofs.Counts.{AreSmall, small_push, small_pop, leaves_on, leaves_on-push, leaves_on-none, leaves_on-more, length_push}
 use Rattle.vm_devices.proofs.Writings.{Writing, writing_first, writing_more, writing_front, writing_all}
 
 -- the tail of a pair that is open, and what closes the pair
@@ -82,9 +82,6 @@ printing_first s old w stack is none = subst (λ (ws : List W). Printing s old o
   rest = tt;
   few = omega (arith, leaves_of-few s w is, leaves_on-none s);
 })
-
-length_push : (ws : List W) (v : W) → length (ws ++ v ∷ []) ≡ length ws + 1
-length_push ws v = length-append ws (v ∷ [])
 
 module _ (s : Seen) (old mid : Option (List ℕ)) (from w : W) (inside : Bool) (stack : List W) (so_far : Printing s old mid from w inside stack) where
   -- the stack has room

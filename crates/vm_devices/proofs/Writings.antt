@@ -11,7 +11,8 @@ pub record Writing (old now : Option (List ℕ)) (whole rest : List ℕ) : Type 
   pub written : now ≡ appended old so_far
   pub parts : so_far ++ rest ≡ whole
 
-appended_none : (old : Option (List ℕ)) → old ≡ appended old []
+-- nothing was appended
+pub appended_none : (old : Option (List ℕ)) → old ≡ appended old []
 appended_none None = refl
 appended_none (Some bytes) = ap Some (sym (append-nil bytes))
 

@@ -1,10 +1,11 @@
 // Texts of words that name no pair.
 
-ghost use Rattle.std.specs.Prelude.{◌≡◌, None, OnOk, OnErr, codes};
+ghost use Rattle.std.specs.Prelude.{◌≡◌, None, is_some, if◌then◌else◌, OnOk, OnErr, codes};
 ghost use Rattle.std.specs.Fmt.{signed_decimal};
 ghost use Rattle.hum_outside.specs.Outside.{HasCause, AppendsFront, appended};
 ghost use Rattle.cap_words.specs.Words.{number_of};
 ghost use Rattle.cap_words.specs.Seen.{seen, cell_seen};
+ghost use Rattle.quad_memory.specs.Cells.{actor_at};
 ghost use Rattle.vm_turn.specs.Piece.{numbers_to, symbol_text, cell_text};
 ghost use Rattle.vm_devices.specs.Texts.{leaf_text};
 
@@ -54,6 +55,17 @@ fn put_cell<K: Sink>(quads: &Quads, q: &Quad, out: &mut K) -> Result<(), Failed>
     }
 }
 
+// The text of an actor's word, and of any other that programs cannot open.
+fn opaque_text(quads: &Quads, word: Word) -> &'static [u8]
+    ensures { result.now ≡ (if is_some (actor_at quads.now.store word) then codes "@" else codes "^") }
+{
+    if quads.actor(word).is_some() {
+        b"@"
+    } else {
+        b"^"
+    }
+}
+
 // The text of a word that is no number and names no cell that programs read.
 fn fixed_text(quads: &Quads, word: Word) -> &'static [u8]
     requires number { number_of word ≡ None }
@@ -68,10 +80,8 @@ fn fixed_text(quads: &Quads, word: Word) -> &'static [u8]
         b"FALSE"
     } else if is_same(word, Word::TRUE) {
         b"TRUE"
-    } else if quads.actor(word).is_some() {
-        b"@"
     } else {
-        b"^"
+        opaque_text(quads, word)
     }
 }
 

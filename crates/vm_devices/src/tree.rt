@@ -62,10 +62,9 @@ fn put_opening<K: Sink>(inside: bool, out: &mut K) -> Result<(), Failed>
     ensures cause { HasCause (K.faults out.old) (K.faults out.new) result }
 {
     if inside {
-        put_all(out, b"")
-    } else {
-        put_all(out, b"(")
+        return Ok(());
     }
+    put_all(out, b"(")
 }
 
 // Writes a word that names no pair, and closes the pair whose spine it ends.

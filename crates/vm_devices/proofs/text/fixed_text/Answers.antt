@@ -17,14 +17,6 @@ returns-then-is_same-3 c = false_text (seen c.args.quads.now.store) c.args.word 
 pub returns-then-is_same-4 : goal.returns-then-is_same-4
 returns-then-is_same-4 c = true_text (seen c.args.quads.now.store) c.args.word (sym c.is_same-else-is_same-3.ensures ∙ c.if-is_same-4.true)
 
-pub returns-then-is_some : goal.returns-then-is_some
-returns-then-is_some c =
-    let text : leaf_text (seen c.args.quads.now.store) c.args.word ≡ (if is_some (actor_at c.args.quads.now.store c.args.word) then codes "@" else codes "^") = other_text c.args.quads.now.store c.args.word c.requires.number c.requires.cell (sym c.is_same.ensures ∙ c.if-is_same.false) (sym c.is_same-else-is_same.ensures ∙ c.if-is_same-2.false) (sym c.is_same-else-is_same-2.ensures ∙ c.if-is_same-3.false) (sym c.is_same-else-is_same-3.ensures ∙ c.if-is_same-4.false) in
-    let is : is_some (actor_at c.args.quads.now.store c.args.word) ≡ true = cc in
-    sym (text ∙ ap (λ b. if b then codes "@" else codes "^") is)
-
-pub returns-else-is_some : goal.returns-else-is_some
-returns-else-is_some c =
-    let text : leaf_text (seen c.args.quads.now.store) c.args.word ≡ (if is_some (actor_at c.args.quads.now.store c.args.word) then codes "@" else codes "^") = other_text c.args.quads.now.store c.args.word c.requires.number c.requires.cell (sym c.is_same.ensures ∙ c.if-is_same.false) (sym c.is_same-else-is_same.ensures ∙ c.if-is_same-2.false) (sym c.is_same-else-is_same-2.ensures ∙ c.if-is_same-3.false) (sym c.is_same-else-is_same-3.ensures ∙ c.if-is_same-4.false) in
-    let is : is_some (actor_at c.args.quads.now.store c.args.word) ≡ false = cc in
-    sym (text ∙ ap (λ b. if b then codes "@" else codes "^") is)
+pub returns-else-is_same-4 : goal.returns-else-is_same
+returns-else-is_same-4 c =
+    c.opaque_text.ensures ∙ sym (other_text c.args.quads.now.store c.args.word c.requires.number c.requires.cell (sym c.is_same.ensures ∙ c.if-is_same.false) (sym c.is_same-else-is_same.ensures ∙ c.if-is_same-2.false) (sym c.is_same-else-is_same-2.ensures ∙ c.if-is_same-3.false) (sym c.is_same-else-is_same-3.ensures ∙ c.if-is_same-4.false))
