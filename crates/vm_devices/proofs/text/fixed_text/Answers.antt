@@ -17,6 +17,6 @@ returns-then-is_same-3 c = false_text (seen c.args.quads.now.store) c.args.word 
 pub returns-then-is_same-4 : goal.returns-then-is_same-4
 returns-then-is_same-4 c = true_text (seen c.args.quads.now.store) c.args.word (sym c.is_same-else-is_same-3.ensures ∙ c.if-is_same-4.true)
 
-pub returns-else-is_same-4 : goal.returns-else-is_same
+pub returns-else-is_same-4 : goal.returns-else-is_same-4
 returns-else-is_same-4 c =
     c.opaque_text.ensures ∙ sym (other_text c.args.quads.now.store c.args.word c.requires.number c.requires.cell (sym c.is_same.ensures ∙ c.if-is_same.false) (sym c.is_same-else-is_same.ensures ∙ c.if-is_same-2.false) (sym c.is_same-else-is_same-2.ensures ∙ c.if-is_same-3.false) (sym c.is_same-else-is_same-3.ensures ∙ c.if-is_same-4.false))
