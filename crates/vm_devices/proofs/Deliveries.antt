@@ -1,12 +1,12 @@
 -- What a device writes, by the texts that are written.
-use Rattle.std.proofs.Common.{◌≡◌, ℕ, zero, suc, Bool, true, false, List, [], ◌∷◌, ◌++◌, Option, Some, None, is_some, option_map, refl, sym, ap, ◌∙◌, subst, arith}
+use Rattle.std.proofs.Common.{◌≡◌, ℕ, zero, suc, true, false, List, [], ◌∷◌, ◌++◌, Option, Some, None, is_some, option_map, refl, ap, ◌∙◌, arith}
 use Rattle.std.specs.Option.{unwrap_or}
 use Rattle.std.specs.Prelude.{Result, Ok, Err, IsErr}
 use Rattle.hum_outside.specs.Outside.{appended, AppendsFront}
 use Rattle.hum_outside.proofs.Fronts.{all_after, front_after, front_left}
 use Rattle.cap_words.specs.Words.{W}
 use Rattle.cap_words.specs.Seen.{Seen}
-use Rattle.vm_turn.specs.Piece.{Tree, tree, tree_text, speech, line, printed, said, piece}
+use Rattle.vm_turn.specs.Piece.{tree, speech, line, printed, said, piece}
 use Rattle.vm_devices.specs.declared.delivery.Done.{Done}
 use Rattle.vm_devices.specs.declared.delivery.Done.TheVariants.{Committed, Refused}
 use Rattle.vm_devices.specs.declared.delivery.WriteFault.{WriteFault}

@@ -1,5 +1,5 @@
 -- The text of a word that names no cell that programs read.
-use Rattle.std.proofs.Common.{◌≡◌, ℕ, ℤ, Bool, true, false, if◌then◌else◌, List, Option, Some, None, is_some, option_map, map, slice_get, nat_eq, codes, refl, sym, ap, ◌∙◌}
+use Rattle.std.proofs.Common.{◌≡◌, ℕ, ℤ, Bool, true, false, if◌then◌else◌, List, Option, Some, None, is_some, option_map, map, slice_get, nat_eq, codes, refl, ap, ◌∙◌}
 use Rattle.std.specs.Fmt.{signed_decimal}
 use Rattle.std.proofs.lemmas.Option.{slice_get-map}
 use Rattle.cap_words.specs.declared.word.Quad.{Quad}

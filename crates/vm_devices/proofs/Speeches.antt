@@ -1,12 +1,12 @@
 -- What a list of characters says, pair by pair.
-use Rattle.std.proofs.Common.{◌≡◌, ℕ, ◌+◌, ◌<◌, Bool, true, false, if◌then◌else◌, pos, negsuc, List, [], ◌∷◌, ◌++◌, Option, Some, None, is_some, option_map, encode_utf8, refl, sym, ap, ◌∙◌, subst, arith}
+use Rattle.std.proofs.Common.{◌≡◌, ℕ, ◌<◌, Bool, true, false, if◌then◌else◌, pos, negsuc, List, [], ◌++◌, Option, Some, None, is_some, option_map, encode_utf8, refl, sym, ap, ◌∙◌, arith}
 use Rattle.std.specs.Option.{unwrap_or}
 use Rattle.hum_outside.specs.Outside.{appended, AppendsFront}
 use Rattle.cap_words.specs.declared.word.Quad.{Quad}
 use Rattle.cap_words.specs.Words.{W, Fix, Rom, Ram, Cap, same_word, nil}
 use Rattle.cap_words.specs.Seen.{Seen, cell_seen}
 use Rattle.instr_table.specs.Lists.{pair_in}
-use Rattle.vm_turn.specs.Piece.{Tree, Leaf, Fork, is_scalar, spoken, speech}
+use Rattle.vm_turn.specs.Piece.{Tree, Fork, is_scalar, spoken, speech}
 use Rattle.vm_devices.specs.Texts.{IsSmall, tree_of, leaves_of, scalar_of, speech_of, speech_text}
 use Rattle.vm_devices.proofs.Trees.{leaf_tree, leaves_of-some, IsForked, forked_of}
 use Rattle.vm_devices.proofs.Writings.{Writing, writing_first, writing_more, writing_front, writing_all}

@@ -1,4 +1,4 @@
-use Rattle.std.proofs.Common.{◌≡◌, ℕ, List, take, length, Option, Some, None, option_map, sym, ap, ◌∙◌, arith}
+use Rattle.std.proofs.Common.{sym, ◌∙◌, arith}
 use Rattle.cap_words.specs.Seen.{seen}
 use Rattle.vm_devices.proofs.Names.{reading_first, reading_full, reading_stop, reading_more, reading_last, reading_none, reading_cut}
 use Rattle.vm_devices.proofs.name.read_name.Goals as goal

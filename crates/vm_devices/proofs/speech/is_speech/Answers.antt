@@ -1,7 +1,6 @@
-use Rattle.std.proofs.Common.{◌≡◌, ℕ, Bool, true, false, not, Option, Some, None, is_some, refl, sym, ap, ◌∙◌}
+use Rattle.std.proofs.Common.{◌≡◌, ℕ, true, false, not, Option, Some, None, is_some, refl, sym, ap, ◌∙◌}
 use Rattle.cap_words.specs.Seen.{seen}
-use Rattle.vm_devices.specs.Texts.{scalar_of}
-use Rattle.vm_devices.proofs.Speeches.{Hearing, hearing_more, hearing_stop, hearing_left, hearing_last}
+use Rattle.vm_devices.proofs.Speeches.{hearing_more, hearing_stop, hearing_left, hearing_last}
 use Rattle.vm_devices.proofs.speech.is_speech.Goals as goal
 
 none_is : (o : Option ℕ) → is_some o ≡ false → o ≡ None

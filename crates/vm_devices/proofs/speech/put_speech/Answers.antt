@@ -1,5 +1,5 @@
-use Rattle.std.proofs.Common.{◌≡◌, sym, ap, ◌∙◌, subst, arith, encode_utf8, List, ℕ}
-use Rattle.hum_outside.specs.Outside.{appended, AppendsFront}
+use Rattle.std.proofs.Common.{sym, ap, ◌∙◌, arith}
+use Rattle.hum_outside.specs.Outside.{appended}
 use Rattle.hum_outside.proofs.Fronts.{on_err}
 use Rattle.cap_words.specs.Seen.{seen}
 use Rattle.vm_devices.proofs.Speeches.{saying_first, saying_some, saying_more, saying_left, saying_all, front_said}

@@ -1,7 +1,5 @@
-use Rattle.std.proofs.Common.{◌≡◌, Bool, true, false, List, ℕ, is_some, sym, ap, ◌∙◌, if◌then◌else◌, codes}
+use Rattle.std.proofs.Common.{sym, ◌∙◌}
 use Rattle.cap_words.specs.Seen.{seen}
-use Rattle.quad_memory.specs.Cells.{actor_at}
-use Rattle.vm_devices.specs.Texts.{leaf_text}
 use Rattle.vm_devices.proofs.Plain.{undef_text, nil_text, false_text, true_text, other_text}
 use Rattle.vm_devices.proofs.text.fixed_text.Goals as goal
 

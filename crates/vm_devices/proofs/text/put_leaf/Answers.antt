@@ -1,5 +1,4 @@
-use Rattle.std.proofs.Common.{◌≡◌, List, ℕ, sym, ap, ◌∙◌, w32, to_z, of_z}
-use Rattle.std.specs.Fmt.{signed_decimal}
+use Rattle.std.proofs.Common.{sym, ◌∙◌}
 use Rattle.cap_words.specs.Seen.{seen}
 use Rattle.cap_words.proofs.Ranges.{in_range-cast}
 use Rattle.vm_devices.proofs.Plain.{number_text, readable_text}

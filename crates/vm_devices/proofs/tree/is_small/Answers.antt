@@ -1,4 +1,4 @@
-use Rattle.std.proofs.Common.{◌≡◌, ◌++◌, ◌∷◌, [], Option, Some, is_some, sym, ap, ◌∙◌, arith, vec_len}
+use Rattle.std.proofs.Common.{[], Option, is_some, sym, ap, ◌∙◌, arith, vec_len}
 use Rattle.cap_words.specs.Seen.{seen}
 use Rattle.vm_turn.specs.Piece.{Tree}
 use Rattle.vm_devices.proofs.Counts.{counting_first, counting_pair, counting_leaf, counting_full, counting_last, popped_none}

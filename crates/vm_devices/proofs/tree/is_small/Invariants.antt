@@ -1,4 +1,4 @@
-use Rattle.std.proofs.Common.{◌-◌, ◌*◌, ◌+◌, ◌≤◌, length, vec_len, vec_capacity}
+use Rattle.std.proofs.Common.{◌-◌, ◌*◌, ◌+◌, ◌≤◌, vec_len, vec_capacity}
 use Rattle.cap_words.specs.Seen.{seen}
 use Rattle.vm_turn.specs.Piece.{most_leaves}
 use Rattle.vm_devices.proofs.Counts.{Counting}

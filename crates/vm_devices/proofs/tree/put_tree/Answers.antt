@@ -1,7 +1,6 @@
-use Rattle.std.proofs.Common.{◌≡◌, ◌++◌, ◌∷◌, [], List, ℕ, codes, sym, ap, ◌∙◌, arith, vec_len, length}
+use Rattle.std.proofs.Common.{[], sym, ◌∙◌, arith, vec_len}
 use Rattle.hum_outside.proofs.Fronts.{on_err}
 use Rattle.cap_words.specs.Seen.{seen}
-use Rattle.vm_devices.specs.Texts.{opening, item_text, text_of}
 use Rattle.vm_devices.proofs.Counts.{popped_none}
 use Rattle.vm_devices.proofs.Spines.{printing_first, printing_room, printing_pair, left_pair, printing_next, left_next, front_opening, front_item, front_next, printing_all}
 use Rattle.vm_devices.proofs.tree.put_tree.Goals as goal

@@ -1,8 +1,8 @@
-use Rattle.std.proofs.Common.{◌≡◌, true, false, is_some, sym, ◌∙◌}
+use Rattle.std.proofs.Common.{sym, ◌∙◌}
 use Rattle.cap_words.specs.Seen.{seen}
 use Rattle.vm_turn.specs.Piece.{tree, printed}
 use Rattle.vm_devices.specs.Texts.{text_of}
-use Rattle.vm_devices.proofs.Trees.{small_there, none_there}
+use Rattle.vm_devices.proofs.Trees.{small_there}
 use Rattle.vm_devices.proofs.Deliveries.{printed_small, broken_line, broken_end, committed_line}
 use Rattle.vm_devices.proofs.delivery.Scratch.print.Goals as goal
 

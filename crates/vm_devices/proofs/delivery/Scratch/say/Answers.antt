@@ -1,4 +1,4 @@
-use Rattle.std.proofs.Common.{◌≡◌, true, false, is_some, sym, ap, ◌∙◌}
+use Rattle.std.proofs.Common.{sym, ap, ◌∙◌}
 use Rattle.cap_words.specs.Seen.{seen}
 use Rattle.vm_turn.specs.Piece.{tree, said}
 use Rattle.vm_devices.specs.Texts.{speech_text}
