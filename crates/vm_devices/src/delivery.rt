@@ -103,10 +103,10 @@ impl Scratch {
 
 /// Delivers a message to a device: 0 is `println`, and 1 is `say`.
 ///
-/// `Committed` comes exactly where the whole line was written. `Refused` comes exactly where the device takes no such message: where its
-/// tree is not a finite one of at most 65,536 leaves, or, at `say`, not a list of Unicode scalar values that ends with `#nil`; nothing was
-/// written then. `WriteFault` comes only where the sink's count of faults rose, and a front of the line was written. Whatever the answer,
-/// the sink tells what was written where it told it before.
+/// `Refused` comes exactly where the device takes no such message: where its tree is not a finite one of at most 65,536 leaves, or, at
+/// `say`, not a list of Unicode scalar values that ends with `#nil`. Nothing was written then. `Committed` comes only where the whole line
+/// was written. `WriteFault` comes only where the sink's count of faults rose, and then a front of the line was written. Whatever the
+/// answer, the sink tells what was written exactly where it told it before.
 pub fn deliver<K: Sink>(
     quads: &Quads,
     device: u32,

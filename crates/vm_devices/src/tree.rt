@@ -15,6 +15,7 @@ use quad_memory::Quads;
 /// A device takes trees of so many leaves.
 pub(crate) const MOST_LEAVES: usize = 65_536;
 
+// Pushes a word where there is room.
 fn push(stack: &mut Vec<Word>, word: Word)
     requires { vec_len stack.old < vec_capacity stack.old }
     ensures items { stack.new.items ≡ stack.old.items ++ word ∷ [] }
