@@ -1,0 +1,4 @@
+pub mod Stack
+pub mod Flight
+pub mod Books
+pub mod Step
