@@ -1,0 +1,6 @@
+pub mod Stacks
+pub mod Moving
+pub mod Flying
+pub mod Going
+pub mod Rows
+pub mod Charges
