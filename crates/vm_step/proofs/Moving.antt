@@ -9,7 +9,7 @@ use Rattle.cap_words.proofs.Frames.{framed-refl, framed-taken, framed-then}
 use Rattle.quad_memory.specs.Memory.{Memory}
 use Rattle.instr_table.specs.Lists.{next_quad, pair_quad}
 use Rattle.instr_table.specs.Event.{Effect, Nothing, Effects, with_effect}
-use Rattle.instr_table.specs.Outcome.{Going, Outcome, Goes}
+use Rattle.instr_table.specs.Outcome.{Going, Outcome, Goes, goes, does}
 use Rattle.instr_table.specs.Lane.{Item, push_one, push_all, after_going, top_at}
 use Rattle.vm_dict.specs.Made.{Takes, opened}
 use Rattle.vm_dict.proofs.Taking.{next-used}
@@ -125,3 +125,84 @@ ready-moves a b l m g n k r p h = record {
 -- fewer quads fit too
 pub ready-less : (a : Memory) (l : Lane) (n k : ℕ) → Ready a l n → k ≤ n → Ready a l k
 ready-less a l n k r h = record { stacked = r.stacked; shallow = r.shallow; linked = r.linked; room = omega (arith, r.room) }
+
+-- ---- what is made before the items move
+
+-- quads are taken and the record is changed, and the stack stays
+pub record Makes (a b : Memory) (l m : Lane) (made : List Slot) (e : Effect) : Type 0 where
+  pub seen_is : seen b.store ≡ grown (seen a.store) made
+  pub stack_is : m.stack ≡ l.stack
+  pub depth_is : m.depth ≡ l.depth
+  pub number_is : m.number ≡ l.number
+  pub event_is : m.event ≡ l.event
+  pub effects_are : effects_of b.store m.effects ≡ with_effect (effects_of a.store l.effects) e
+  pub alone : IsAlone e
+  pub linked : IsLinked b.store m.effects
+  pub frame : Framed a.store b.store (touched e (lane_words a.store l))
+  pub room_is : b.room ≡ a.room
+
+-- ordinary cells are taken
+pub makes-takes : (a b : Memory) (l : Lane) (n : ℕ) (made : List Slot) → Ready a l n → Takes a b made → Makes a b l l made Nothing
+makes-takes a b l n made r t =
+    let taken_is : b.store ≡ taken a.store (opened made) = ap (λ (x : Memory). x.store) t.memory_is in
+    let record_is = effects-taken a.store l.effects r.linked (opened made) in
+    record {
+      seen_is = t.seen_is;
+      stack_is = refl;
+      depth_is = refl;
+      number_is = refl;
+      event_is = refl;
+      effects_are = ap (λ (x : Store). effects_of x l.effects) taken_is ∙ record_is.0;
+      alone = tt;
+      linked = subst (λ (x : Store). IsLinked x l.effects) (sym taken_is) record_is.1;
+      frame = subst (λ (x : Store). Framed a.store x []) (sym taken_is) (framed-taken a.store (opened made) []);
+      room_is = ap (λ (x : Memory). x.room) t.memory_is;
+    }
+
+module _ (a b : Memory) (l m : Lane) (n : ℕ) (made : List Slot) (e : Effect) (r : Ready a l n) (p : Makes a b l m made e) where
+  stack_made : stack_of b.store m ≡ stack_of a.store l
+  stack_made = ap (λ (x : Seen). items_from x m.depth m.stack) p.seen_is ∙ ap₂ (items_from (grown (seen a.store) made)) p.depth_is p.stack_is ∙ items-grown (seen a.store) made l.depth l.stack r.stacked
+
+  pub stacked-made : IsStack (seen b.store) m.depth m.stack
+  stacked-made = subst (λ (x : Seen). IsStack x m.depth m.stack) (sym p.seen_is)
+      (subst (λ (d : ℕ). IsStack (grown (seen a.store) made) d m.stack) (sym p.depth_is) (subst (λ (w : W). IsStack (grown (seen a.store) made) l.depth w) (sym p.stack_is) (stack-grown (seen a.store) made l.depth l.stack r.stacked)))
+
+  -- where quads are left, the next one fits too
+  pub ready-makes : (k : ℕ) → length made + k ≤ n → Ready b m k
+  ready-makes k h = record {
+    stacked = stacked-made;
+    shallow = let u = used-grown a.store b.store made p.seen_is in let d = p.depth_is in let s = r.shallow in omega (arith, u, d, s);
+    linked = p.linked;
+    room = let u = used-grown a.store b.store made p.seen_is in let o = p.room_is in let f = r.room in omega (arith, u, o, f, h);
+  }
+
+  -- and then items are taken off the stack and others pushed
+  pub makes-moves : (c : Memory) (o : Lane) (pops : ℕ) (pushed : List W) (next : W) → Moves b c m o (restacking pops pushed next)
+      → Moves a c l o (record { pops = pops; made = made; pushed = pushed; goes_to = next; effect = e })
+  makes-moves c o pops pushed next q = record {
+    seen_is = q.seen_is
+        ∙ ap (λ (x : Seen). push_all (x, drop pops (stack_of b.store m)) pushed) (grown-nil (seen b.store) ∙ p.seen_is)
+        ∙ ap (λ (is : List Item). push_all (grown (seen a.store) made, drop pops is) pushed) stack_made;
+    code_is = q.code_is;
+    number_is = q.number_is ∙ p.number_is;
+    event_is = q.event_is ∙ p.event_is;
+    effects_are = q.effects_are ∙ p.effects_are;
+    alone = p.alone;
+    stacked = q.stacked;
+    shallow = q.shallow;
+    linked = q.linked;
+    frame = framed-then a.store b.store c.store (touched e (lane_words a.store l)) [] (touched e (lane_words a.store l)) p.frame q.frame (λ w k. k) (λ w k. absurd k);
+    room_is = q.room_is ∙ p.room_is;
+  }
+
+  pub makes-turns : (c : Memory) (o : Lane) (pops : ℕ) (pushed : List W) (next : W) (end : StepEnd) → Turns b c m o (goes pops pushed next).outcome end
+      → Turns a c l o (does pops made pushed next e).outcome end
+  makes-turns c o pops pushed next end t = (t.0, makes-moves c o pops pushed next t.1)
+
+-- the same where ordinary cells alone are taken
+pub ready-takes : (a b : Memory) (l : Lane) (n k : ℕ) (made : List Slot) → Ready a l n → Takes a b made → length made + k ≤ n → Ready b l k
+ready-takes a b l n k made r t h = ready-makes a b l l n made Nothing r (makes-takes a b l n made r t) k h
+
+pub takes-turns : (a b c : Memory) (l o : Lane) (n : ℕ) (made : List Slot) (pops : ℕ) (pushed : List W) (next : W) (end : StepEnd) → Ready a l n → Takes a b made → Turns b c l o (goes pops pushed next).outcome end
+    → Turns a c l o (does pops made pushed next Nothing).outcome end
+takes-turns a b c l o n made pops pushed next end r t k = makes-turns a b l l n made Nothing r (makes-takes a b l n made r t) c o pops pushed next end k
