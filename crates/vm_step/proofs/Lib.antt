@@ -4,3 +4,4 @@ pub mod Flying
 pub mod Going
 pub mod Rows
 pub mod Charges
+pub mod Typing

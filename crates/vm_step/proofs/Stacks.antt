@@ -1,5 +1,5 @@
 -- Stacks stand when cells are taken, and what pushing and popping do.
-use Rattle.std.proofs.Common.{◌≡◌, ℕ, zero, suc, ◌+◌, ◌-◌, ◌≤◌, List, [], ◌∷◌, ◌++◌, Some, refl, ap, sym, ◌∙◌, subst, arith, drop}
+use Rattle.std.proofs.Common.{◌≡◌, ℕ, zero, suc, ◌+◌, ◌-◌, ◌≤◌, List, [], ◌∷◌, ◌++◌, Some, refl, ap, sym, ◌∙◌, subst, arith, drop, length}
 use Rattle.std.specs.Prelude.{map}
 use Rattle.std.proofs.lemmas.Grind.{common_steps}
 use Rattle.cap_words.specs.declared.word.Quad.{Quad}
@@ -7,7 +7,7 @@ use Rattle.cap_words.specs.Words.{W, Ram}
 use Rattle.cap_words.specs.Seen.{Seen, Slot, OpenSlot, grown, open_in, cell_seen}
 use Rattle.cap_words.proofs.Places.{get-seam}
 use Rattle.vm_dict.proofs.Taking.{cell-grown}
-use Rattle.instr_table.specs.Lists.{next_quad, pair_quad, item}
+use Rattle.instr_table.specs.Lists.{next_quad, pair_quad, item, tail_in}
 use Rattle.instr_table.specs.Lane.{Item, values, top_at}
 use Rattle.vm_step.specs.Stack.{items_from, IsStack}
 
@@ -66,3 +66,8 @@ item-below (i ∷ is) (suc (suc n)) h =
     let e : suc (suc n) - 1 ≡ suc (suc n - 1) = omega arith in
     let f : suc n - 1 ≡ n = omega arith in
     rw e (r ∙ rw f)
+
+-- how many items there are
+pub length-values : (s : Seen) (d : ℕ) (w : W) → length (values (items_from s d w)) ≡ d
+length-values s zero w = refl
+length-values s (suc d) w = ap suc (length-values s d (tail_in (cell_seen s w)))

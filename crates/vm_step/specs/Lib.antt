@@ -6,3 +6,4 @@ pub mod Moves
 pub mod Paid
 pub mod Groups
 pub mod Reads
+pub mod Whole

@@ -8,6 +8,7 @@ ghost use Rattle.vm_step.specs.Flight.{own_at};
 ghost use Rattle.vm_step.specs.Groups.{group_of};
 ghost use Rattle.vm_step.specs.Moves.{Ready, Turns, plain_row};
 ghost use Rattle.vm_step.specs.Reads.{own_in};
+ghost use Rattle.vm_step.specs.Whole.{AreWhole};
 
 use crate::lane::{Lane, StepEnd};
 use crate::reads::OwnWords;
@@ -26,6 +27,7 @@ pub(crate) fn on_actors(
     requires in_row { IsTrue (is_op op.now) }
     requires own { own_in own.now ≡ own_at (seen quads.old.store) lane.old.event }
     requires group { group_of op.now ≡ Actors }
+    requires whole { AreWhole quads.old.store }
     requires ready { Ready quads.old lane.old (plain_row quads.old lane.old op.now next).charge.quads }
     ensures { Turns quads.old quads.new lane.old lane.new (plain_row quads.old lane.old op.now next).outcome result }
 {

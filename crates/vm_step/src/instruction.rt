@@ -9,6 +9,7 @@ ghost use Rattle.vm_step.specs.Flight.{own_at, Held};
 ghost use Rattle.vm_step.specs.Books.{Books};
 ghost use Rattle.vm_step.specs.Step.{Steps, Stays};
 ghost use Rattle.vm_step.specs.Reads.{own_in};
+ghost use Rattle.vm_step.specs.Whole.{AreWhole};
 ghost use Rattle.vm_step.specs.Groups.{group_of};
 ghost use Rattle.vm_step.specs.Moves.{Ready, Turns, plain_row};
 ghost use Rattle.vm_step.specs.Paid.{Paid, Acts, paid_row_in};
@@ -90,6 +91,7 @@ fn turn(quads: &mut Quads, lane: &mut Lane, own: &OwnWords, op: &Op, next: Word)
     requires in_row { IsTrue (is_op op.now) }
     requires own { own_in own.now ≡ own_at (seen quads.old.store) lane.old.event }
     requires plain { group_of op.now ≡ Sponsors → ⊥ }
+    requires whole { AreWhole quads.old.store }
     requires ready { Ready quads.old lane.old (plain_row quads.old lane.old op.now next).charge.quads }
     ensures { Turns quads.old quads.new lane.old lane.new (plain_row quads.old lane.old op.now next).outcome result }
 {

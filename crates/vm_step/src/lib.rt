@@ -16,6 +16,7 @@ mod reads;
 mod sponsors;
 mod stack;
 mod taking;
+mod types;
 mod words;
 
 pub use instruction::step;
