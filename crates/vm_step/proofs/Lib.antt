@@ -5,3 +5,4 @@ pub mod Going
 pub mod Rows
 pub mod Charges
 pub mod Typing
+pub mod Pushing

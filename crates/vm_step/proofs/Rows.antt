@@ -1,5 +1,5 @@
 -- Rows before and after the payment, and how an instruction is put together.
-use Rattle.std.proofs.Common.{◌≡◌, ℕ, ◌+◌, List, [], ◌∷◌, length, Option, Some, None, Bool, true, false, if◌then◌else◌, nat_lt, IsTrue, Result, Ok, Err, refl, ap, ap₂, sym, ◌∙◌, subst, arith, suc}
+use Rattle.std.proofs.Common.{◌≡◌, ℕ, ◌+◌, List, [], ◌∷◌, length, Option, Some, None, Bool, true, false, if◌then◌else◌, nat_lt, IsTrue, IfSome, Result, Ok, Err, refl, ap, ap₂, sym, ◌∙◌, subst, arith, suc}
 use Rattle.cap_words.specs.Words.{W, same_word}
 use Rattle.cap_words.specs.Seen.{Seen, seen}
 use Rattle.quad_memory.specs.Memory.{Memory}
@@ -8,7 +8,7 @@ use Rattle.instr_table.specs.declared.charge.Quota.{Quota}
 use Rattle.instr_table.specs.declared.op.Op.{Op}
 use Rattle.instr_table.specs.declared.op.Op.TheVariants.{SponsorNew, SponsorGrant, SponsorReclaim, SponsorStart, SponsorStop}
 use Rattle.instr_table.specs.Code.{fetched}
-use Rattle.instr_table.specs.Spelling.{is_op}
+use Rattle.instr_table.specs.Spelling.{is_op, charge_of}
 use Rattle.instr_table.specs.Lists.{item, next_quad}
 use Rattle.instr_table.specs.Types.{is_actor, is_sponsor}
 use Rattle.instr_table.specs.Event.{Own, Effects, Starts}
@@ -150,3 +150,14 @@ steps-short a b old new l r c who out e f w answer after same =
 
 pub stays-same : (a b : Memory) (old new : Ledger) → Books a old → b ≡ a → new ≡ old → Stays a b old new
 stays-same a b old new h e f = subst (λ (x : Memory). Stays a x old new) (sym e) (subst (λ (x : Ledger). Stays a a old x) (sym f) (stays-refl a old h))
+
+-- ---- the room of a charge that the table states
+
+stated-quads : (o : Option Charge) (c : Charge) (r : Row) → Some c ≡ o → IfSome o (λ (x : Charge). r.charge ≡ x) → r.charge ≡ c
+stated-quads None c r e h = cc
+stated-quads (Some x) c r e h = let k : x ≡ c = cc in h ∙ k
+
+pub stated-ready : (a : Memory) (l : Lane) (op : Op) (next : W) (c : Charge) → IsTrue (is_op op) → Some c ≡ charge_of op → Ready a l (plain_row a l op next).charge.quads → Ready a l c.quads
+stated-ready a l op next c h e r =
+    subst (λ (x : Charge). Ready a l x.quads)
+    (stated-quads (charge_of op) c (plain_row a l op next) e (row-charged (own_at (seen a.store) l.event) (seen a.store) [] (effects_of a.store l.effects) (values_of a l) next op h)) r

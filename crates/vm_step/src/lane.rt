@@ -106,8 +106,7 @@ impl Lane {
 
     // The stack by itself.
     pub(crate) fn items(&self) -> Stack
-        ensures word { result.word ≡ self.now.stack }
-        ensures depth { result.depth ≡ self.now.depth }
+        ensures { result ≡ record { word = self.now.stack; depth = self.now.depth } }
     {
         Stack {
             word: self.stack,

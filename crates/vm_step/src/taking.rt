@@ -1,7 +1,7 @@
 // The cells that instructions read and take.
 
-ghost use Rattle.std.specs.Prelude.{◌≡◌, ◌<◌, [], ◌∷◌};
-ghost use Rattle.cap_words.specs.Words.{same_word};
+ghost use Rattle.std.specs.Prelude.{◌≡◌, ◌+◌, ◌^◌, ◌<◌, ◌≤◌, pos, unsigned_abs, [], ◌∷◌};
+ghost use Rattle.cap_words.specs.Words.{Fix, same_word};
 ghost use Rattle.cap_words.specs.Seen.{OpenSlot, seen, cell_seen};
 ghost use Rattle.cap_words.specs.Store.{used};
 ghost use Rattle.instr_table.specs.Lists.{pair_quad};
@@ -16,6 +16,21 @@ pub(crate) fn is_same(a: Word, b: Word) -> bool
     ensures { result ≡ same_word a b }
 {
     a == b
+}
+
+// The size of a number.
+pub(crate) fn size(n: &i32) -> u32
+    ensures { result ≡ unsigned_abs n.now }
+{
+    n.unsigned_abs()
+}
+
+// The word of a small number.
+pub(crate) fn count_word(n: u32) -> Word
+    requires { n ≤ 2 ^ 24 + 256 }
+    ensures { result ≡ Fix (pos n) }
+{
+    Word::number_word(n as i32)
 }
 
 // The quad under a word.
