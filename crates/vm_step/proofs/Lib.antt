@@ -6,3 +6,4 @@ pub mod Rows
 pub mod Charges
 pub mod Typing
 pub mod Pushing
+pub mod Casts

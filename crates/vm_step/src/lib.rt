@@ -5,6 +5,7 @@
 #![tactic(auto)]
 
 mod actors;
+mod arithmetic;
 mod cells;
 mod charge;
 mod flow;
@@ -12,6 +13,7 @@ mod group;
 mod instruction;
 mod lane;
 mod lists;
+mod pairs;
 mod reads;
 mod sponsors;
 mod stack;
