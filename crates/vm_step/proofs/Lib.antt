@@ -7,3 +7,4 @@ pub mod Charges
 pub mod Typing
 pub mod Pushing
 pub mod Casts
+pub mod Making

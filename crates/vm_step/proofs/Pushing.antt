@@ -10,6 +10,7 @@ use Rattle.quad_memory.specs.Memory.{Memory}
 use Rattle.instr_table.specs.Lists.{item, top_items, rolled}
 use Rattle.instr_table.specs.Lane.{Item, values, push_all}
 use Rattle.instr_table.proofs.Authorities.{pushed-store}
+use Rattle.instr_table.proofs.Charges.{length-top_items}
 use Rattle.vm_step.specs.declared.lane.Lane.{Lane}
 use Rattle.vm_step.specs.Stack.{items_from, IsStack}
 use Rattle.vm_step.specs.declared.lane.Stack.{Stack as Items}
@@ -17,11 +18,6 @@ use Rattle.vm_step.specs.Moves.{Ready, Moves, restacking, values_in, values_of}
 use Rattle.vm_step.specs.Flight.{stack_of}
 use Rattle.vm_step.proofs.Stacks.{items-grown, stack-grown}
 use Rattle.vm_step.proofs.Moving.{grown-nil, moves-then, ready-moves, ready-less}
-
-pub length-top_items : (n : ℕ) (vs : List W) → length (top_items n vs) ≡ n
-length-top_items zero vs = refl
-length-top_items (suc n) [] = ap suc (length-top_items n [])
-length-top_items (suc n) (v ∷ vs) = ap suc (length-top_items n vs)
 
 pub get_or-top_items : (n : ℕ) (vs : List W) (i : ℕ) (d : W) → i < n → get_or (top_items n vs) i d ≡ get_or vs i undef
 get_or-top_items zero vs i d h = absurd (omega arith)
@@ -64,7 +60,7 @@ pushing-more a b c l m o vs k v p h e q =
     let t : take k vs ++ v ∷ [] ≡ take (k + 1) vs = ap (λ (x : W). take k vs ++ x ∷ []) e ∙ sym (take_more vs k undef h) in
     record { moves = subst (λ (ws : List W). Moves a c l o (restacking 0 ws l.code)) t (moves-then a b c l m o (restacking 0 (take k vs) l.code) (v ∷ []) p.moves q) }
 
-length-take : (vs : List W) (k : ℕ) → k ≤ length vs → length (take k vs) ≡ k
+pub length-take : (vs : List W) (k : ℕ) → k ≤ length vs → length (take k vs) ≡ k
 length-take vs zero h = refl
 length-take [] (suc k) h = absurd (omega arith)
 length-take (v ∷ vs) (suc k) h = ap suc (length-take vs k (omega arith))

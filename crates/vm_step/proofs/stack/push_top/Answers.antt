@@ -6,7 +6,8 @@ use Rattle.cap_words.specs.Seen.{seen}
 use Rattle.instr_table.specs.Lane.{Item, values}
 use Rattle.instr_table.specs.Lists.{item, top_items}
 use Rattle.vm_step.specs.Moves.{values_in}
-use Rattle.vm_step.proofs.Pushing.{pushing-start, pushing-more, pushing-ready, pushing-end, others-stand, turned-item, length-top_items}
+use Rattle.vm_step.proofs.Pushing.{pushing-start, pushing-more, pushing-ready, pushing-end, others-stand, turned-item}
+use Rattle.instr_table.proofs.Charges.{length-top_items}
 use Rattle.vm_step.proofs.stack.push_top.Goals as goal
 
 pub loop-k-init : goal.loop-k-init
