@@ -8,3 +8,4 @@ pub mod Typing
 pub mod Pushing
 pub mod Casts
 pub mod Making
+pub mod Listing

@@ -7,3 +7,4 @@ pub mod Paid
 pub mod Groups
 pub mod Reads
 pub mod Whole
+pub mod TakenItems
