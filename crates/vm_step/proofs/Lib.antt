@@ -9,3 +9,4 @@ pub mod Pushing
 pub mod Casts
 pub mod Making
 pub mod Listing
+pub mod Recording
