@@ -10,3 +10,5 @@ pub mod Casts
 pub mod Making
 pub mod Listing
 pub mod Recording
+pub mod Balances
+pub mod Shifting
