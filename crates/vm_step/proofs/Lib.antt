@@ -12,3 +12,4 @@ pub mod Listing
 pub mod Recording
 pub mod Balances
 pub mod Shifting
+pub mod Sponsoring

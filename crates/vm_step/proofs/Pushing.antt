@@ -118,4 +118,3 @@ module _ (a : Memory) (l : Lane) (n : ℕ) (next v : W) (st : Items) (is : st �
       let all : reverse (top ++ v ∷ []) ≡ reverse (rolled (negsuc (n - 1)) (values_of a l)) =
       ap₂ (λ (ws : List W) (w : W). reverse (top_items (n - 1) ws ++ w ∷ [])) vs-are (e ∙ ap (λ (ws : List W). item ws 1) vs_are) in
       subst (λ (ws : List W). Moves a c l l3 (restacking n ws next)) (turn ∙ all) two
-

@@ -110,13 +110,15 @@ module _ (a b : Memory) (old new : Ledger) (l : Lane) (made : List Slot) (e : Ef
         → Acts a c old new l m (does pops made pushed next e).outcome end × Stays a c old new
     shifts-act end few t =
         let x = turns-act b c new l m (charge left 0) next next (goes pops pushed next).outcome end shifts-paid (omega arith, omega arith) tt t in
-        let s = x.1 in
-        ((x.0.0, goes_by x.0.1), record {
-          books = s.books;
-          room_is = s.room_is ∙ p.room_is;
-          sponsors = λ w i. s.sponsors w (p.sponsors w i);
-          transfers = p.transfers;
-        })
+        let s = x.1 in (
+          (x.0.0, goes_by x.0.1),
+          record {
+            books = s.books;
+            room_is = s.room_is ∙ p.room_is;
+            sponsors = λ w i. s.sponsors w (p.sponsors w i);
+            transfers = p.transfers;
+          },
+        )
 
 -- ---- how they arise
 

@@ -58,7 +58,7 @@ fn new_sponsor_charge(made: bool) -> Charge
 }
 
 // Whether there may be one sponsor more.
-fn may_grow(quads: &Quads, sheet: &Sheet) -> bool
+pub(crate) fn may_grow(quads: &Quads, sheet: &Sheet) -> bool
     requires { Belongs quads.now.store sheet.now }
     ensures { result ≡ nat_lt (length (sheet_in quads.now sheet.now)) most_sponsors }
 {

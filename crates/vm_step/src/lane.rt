@@ -155,13 +155,7 @@ impl Lane {
     }
 
     // Takes values off, puts one on, and goes on.
-    pub(crate) fn gives(
-        &mut self,
-        quads: &mut Quads,
-        pops: u32,
-        value: Word,
-        next: Word,
-    ) -> StepEnd
+    pub(crate) fn gives(&mut self, quads: &mut Quads, pops: u32, value: Word, next: Word) -> StepEnd
         requires { Ready quads.old self.old 1 }
         ensures { Turns quads.old quads.new self.old self.new (goes pops (value ∷ []) next).outcome result }
     {

@@ -21,8 +21,8 @@ use cap_words::Word;
 use instr_table::Op;
 use quad_memory::Quads;
 use vm_dict::{
-    deque_len, deque_new, deque_pop, deque_pull, deque_push, deque_put, dict_add, dict_del,
-    dict_get, dict_set, Taken,
+    Taken, deque_len, deque_new, deque_pop, deque_pull, deque_push, deque_put, dict_add, dict_del,
+    dict_get, dict_set,
 };
 
 // Does what the row of such an operation says.

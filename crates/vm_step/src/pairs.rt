@@ -13,7 +13,11 @@ pub(crate) fn head(quads: &Quads, w: Word) -> Word
     ensures { result ≡ head_in (cell_seen (seen quads.now.store) w) }
 {
     match cell(quads, w) {
-        Some(q) => if is_same(q.t, Word::PAIR_T) { q.x } else { Word::UNDEF },
+        Some(q) => if is_same(q.t, Word::PAIR_T) {
+            q.x
+        } else {
+            Word::UNDEF
+        },
         None => Word::UNDEF,
     }
 }
@@ -23,7 +27,11 @@ pub(crate) fn tail(quads: &Quads, w: Word) -> Word
     ensures { result ≡ tail_in (cell_seen (seen quads.now.store) w) }
 {
     match cell(quads, w) {
-        Some(q) => if is_same(q.t, Word::PAIR_T) { q.y } else { Word::UNDEF },
+        Some(q) => if is_same(q.t, Word::PAIR_T) {
+            q.y
+        } else {
+            Word::UNDEF
+        },
         None => Word::UNDEF,
     }
 }

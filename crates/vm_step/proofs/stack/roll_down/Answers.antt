@@ -10,5 +10,5 @@ pub returns : goal.returns
 returns c = (
   refl,
   rolled-down c.args.quads.now c.args.lane.now c.args.n c.args.next c.pop-value.result c.items-from.result c.items-from.ensures c.push.new.quads c.push_top.new.quads c.advance.new.self c.push.new.self c.push_top.new.lane c.pop-value.new.self
-  c.pop-value.ensures.value c.pop-value.ensures.rest c.pop-value.ensures.stacked c.advance.ensures c.push.ensures c.push_top.ensures,
+      c.pop-value.ensures.value c.pop-value.ensures.rest c.pop-value.ensures.stacked c.advance.ensures c.push.ensures c.push_top.ensures,
 )

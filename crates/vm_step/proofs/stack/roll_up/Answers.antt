@@ -11,5 +11,5 @@ pub returns : goal.returns
 returns c = (
   refl,
   rolled-up c.args.quads.now c.args.lane.now c.args.n c.args.next c.at-value.result c.items-from.result c.items-from.ensures c.push_top.new.quads c.push.new.quads c.advance.new.self c.push_top.new.lane c.push.new.self
-  c.at-value.ensures c.advance.ensures c.push_top.ensures c.push.ensures,
+      c.at-value.ensures c.advance.ensures c.push_top.ensures c.push.ensures,
 )
