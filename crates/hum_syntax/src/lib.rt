@@ -2,6 +2,7 @@
 #![tactic(auto)]
 
 mod keyword;
+mod laws;
 #[cfg(test)]
 mod tests;
 mod token;
@@ -9,6 +10,7 @@ mod tree;
 mod word;
 
 pub use keyword::{KEYWORDS, Keyword};
+pub use laws::spelled_trees_are_formed;
 pub use token::{Token, TokenKind};
 pub use tree::{Arm, Branch, Expr, Pat, Stmt, Tree};
 pub use word::{Name, Sym, Text};
