@@ -10,7 +10,7 @@ mod tree;
 mod word;
 
 pub use keyword::{KEYWORDS, Keyword};
-pub use laws::spelled_trees_are_formed;
+pub use laws::{names_are_spelled, names_have_tokens, spelled_trees_are_formed, trees_are_light};
 pub use token::{Token, TokenKind};
 pub use tree::{Arm, Branch, Expr, Pat, Stmt, Tree};
 pub use word::{Name, Sym, Text};
