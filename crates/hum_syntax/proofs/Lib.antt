@@ -2,3 +2,4 @@ pub mod Folding
 pub mod FormedTrees
 pub mod NamedTrees
 pub mod SizedTrees
+pub mod Written
