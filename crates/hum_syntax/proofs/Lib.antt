@@ -3,3 +3,6 @@ pub mod FormedTrees
 pub mod NamedTrees
 pub mod SizedTrees
 pub mod Written
+pub mod Chains
+pub mod Induction
+pub mod PrintedTrees

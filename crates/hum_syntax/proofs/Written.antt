@@ -45,7 +45,7 @@ module _ {X : Type 0} (mark : TokenKind) (last inner : X → Kinds) (tokens : Li
 abbrev pub item_tokens : List Expr → Kinds
 item_tokens xs = (tuple (items_in (map part_of_expr xs))).tokens
 
-items_more : (x y : Expr) (ys : List Expr) → item_tokens (x ∷ y ∷ ys) ≡ (as_term (part_of_expr x)).tokens ++ k.Comma ∷ item_tokens (y ∷ ys)
+pub items_more : (x y : Expr) (ys : List Expr) → item_tokens (x ∷ y ∷ ys) ≡ (as_term (part_of_expr x)).tokens ++ k.Comma ∷ item_tokens (y ∷ ys)
 items_more x y [] = refl
 items_more x y (z ∷ zs) = refl
 
