@@ -30,7 +30,8 @@ chain_term {n} {m} {ks} {a} c =
     let calls : IsCalls (suc n) c.f c.vs a = subst (λ vs. IsCalls (suc n) c.f vs a) (append-nil c.vs) (c.goes [] a grammar.calls_done) in
     subst (λ ks. IsTerm n ks a) c.split (grammar.chain c.atom calls)
 
-chain_call : {n m : ℕ} {ks us : Kinds} {f x : Expr} → IsChain n (suc (suc m)) ks f → IsExpr m us x → IsChain n (suc m) (ks ++ k.CallParen ∷ us ++ k.ParenRight ∷ []) (e.Call f x)
+chain_call : {n m : ℕ} {ks us : Kinds} {f x : Expr} → IsChain n (suc (suc m)) ks f → IsExpr m us x
+    → IsChain n (suc m) (ks ++ k.CallParen ∷ us ++ k.ParenRight ∷ []) (e.Call f x)
 chain_call {n} {m} {ks} {us} {f} {x} c h = record {
   us = c.us;
   vs = c.vs ++ (k.CallParen ∷ us ++ k.ParenRight ∷ []);
@@ -42,7 +43,8 @@ chain_call {n} {m} {ks} {us} {f} {x} c h = record {
   atom = c.atom;
   goes = λ ws b more.
       subst (λ vs. IsCalls (suc n) c.f vs b)
-      (sym (append_assoc c.vs (k.CallParen ∷ us ++ k.ParenRight ∷ []) ws ∙ ap (λ z. c.vs ++ k.CallParen ∷ z) (append_assoc us (k.ParenRight ∷ []) ws)))
+      (sym (append_assoc c.vs (k.CallParen ∷ us ++ k.ParenRight ∷ []) ws ∙ ap (λ z. c.vs ++ k.CallParen ∷ z)
+        (append_assoc us (k.ParenRight ∷ []) ws)))
       (c.goes (k.CallParen ∷ us ++ k.ParenRight ∷ ws) b (grammar.calls_call h more));
 }
 
@@ -87,7 +89,8 @@ parens_callee p a h = record { within = omega arith; chain = go }
     go zero m below e = absurd (omega arith)
     go (suc n) m below e =
         let same : suc (suc n) ≡ m = omega arith in
-        subst (λ m. IsChain (suc n) m (k.ParenLeft ∷ p.tokens ++ k.ParenRight ∷ []) a) same (atom_chain (grammar.paren (fits_expr p a h n (omega arith))))
+        subst (λ m. IsChain (suc n) m (k.ParenLeft ∷ p.tokens ++ k.ParenRight ∷ []) a) same
+          (atom_chain (grammar.paren (fits_expr p a h n (omega arith))))
 
 pub fits_term : (p : Part) (a : Expr) → Fits p a → (n : ℕ) → (as_term p).levels ≤ n → IsTerm n (as_term p).tokens a
 fits_term p a h = go (is_wide p.form) refl

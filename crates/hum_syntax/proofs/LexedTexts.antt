@@ -100,8 +100,10 @@ undefined_run : IsRunOf (bytes_of k.Undefined) k.Undefined
 undefined_run = record { some = omega arith; each = refl; short = omega arith; value = refl; small = refl; open_to_all = refl }
 
 stands : (kind : TokenKind) (rest : Bytes) → is_lexed kind ≡ true → is_call kind ≡ false → Stops rest → Stands false (bytes_of kind) rest kind
-stands (k.Number z) rest h plain stops = run_stands false (bytes_of (k.Number z)) rest (k.Number z) (number_run z (and_parts (is_carried (k.Number z)) true h).0) stops
-stands (k.Keyword word) rest h plain stops = run_stands false (word_of word) rest (k.Keyword word) (keyword_run word (not-true (is_reserved (k.Keyword word)) h)) stops
+stands (k.Number z) rest h plain stops =
+    run_stands false (bytes_of (k.Number z)) rest (k.Number z) (number_run z (and_parts (is_carried (k.Number z)) true h).0) stops
+stands (k.Keyword word) rest h plain stops =
+    run_stands false (word_of word) rest (k.Keyword word) (keyword_run word (not-true (is_reserved (k.Keyword word)) h)) stops
 stands k.Wildcard rest h plain stops = run_stands false (bytes_of k.Wildcard) rest k.Wildcard wildcard_run stops
 stands k.Undefined rest h plain stops = run_stands false (bytes_of k.Undefined) rest k.Undefined undefined_run stops
 stands (k.Name t) rest h plain stops = run_stands false t rest (k.Name t) (name_run t (and_parts (is_name t) true h).0) stops
@@ -141,7 +143,8 @@ behind_stops (kind ∷ ks) = refl
 
 written-behind : (ks : Kinds) (b : ℕ) (t : Bytes) → written (b ∷ t) ks ≡ b ∷ t ++ behind ks
 written-behind [] b t = ap (λ u. b ∷ u) (sym (append-nil t))
-written-behind (k.CallParen ∷ ks) b t = written-behind ks b (t ++ bytes_of k.CallParen) ∙ ap (λ u. b ∷ u) (append_assoc t (bytes_of k.CallParen) (behind ks))
+written-behind (k.CallParen ∷ ks) b t =
+    written-behind ks b (t ++ bytes_of k.CallParen) ∙ ap (λ u. b ∷ u) (append_assoc t (bytes_of k.CallParen) (behind ks))
 written-behind (kind ∷ ks) b t =
     written-behind ks b ((t ++ 32 ∷ []) ++ bytes_of kind)
     ∙ ap (λ u. b ∷ u) (append_assoc (t ++ 32 ∷ []) (bytes_of kind) (behind ks) ∙ append_assoc t (32 ∷ []) (bytes_of kind ++ behind ks))
@@ -165,7 +168,8 @@ token_reads called at kind us rest ks stand more = record {
 }
 
 blank_reads : (called : Bool) (at : ℕ) (rest : Bytes) (ks : Kinds) → Reads (spot false (at + 1) rest) ks → Reads (spot called at (32 ∷ rest)) ks
-blank_reads called at rest ks more = record { ts = more.ts; e = more.e; leads = step (blank refl refl) more.leads; ends = more.ends; kinds = more.kinds }
+blank_reads called at rest ks more =
+    record { ts = more.ts; e = more.e; leads = step (blank refl refl) more.leads; ends = more.ends; kinds = more.kinds }
 
 -- the parts of the test at one token
 parts_at : (called : Bool) (kind : TokenKind) (ks : Kinds) → writable called (kind ∷ ks) ≡ true
@@ -176,7 +180,8 @@ parts_at called kind ks h =
     (inner.0, inner.1, outer.1)
 
 spaced_reads : (called : Bool) (at : ℕ) (kind : TokenKind) (ks : Kinds) → is_call kind ≡ false → is_lexed kind ≡ true
-    → Reads (spot (is_callee kind) (at + 1 + length (bytes_of kind)) (behind ks)) ks → Reads (spot called at (32 ∷ bytes_of kind ++ behind ks)) (kind ∷ ks)
+    → Reads (spot (is_callee kind) (at + 1 + length (bytes_of kind)) (behind ks)) ks
+        → Reads (spot called at (32 ∷ bytes_of kind ++ behind ks)) (kind ∷ ks)
 spaced_reads called at kind ks plain lexed more =
     blank_reads called at (bytes_of kind ++ behind ks) (kind ∷ ks)
     (token_reads false (at + 1) kind (bytes_of kind) (behind ks) ks (stands kind (behind ks) lexed plain (behind_stops ks)) more)
@@ -202,10 +207,12 @@ first_written : (us : Bytes) (ks : Kinds) → 0 < length us → written us ks �
 first_written [] ks some = absurd (omega arith)
 first_written (b ∷ us) ks some = written-behind ks b us
 
-first_reads : (kind : TokenKind) (ks : Kinds) → is_call kind ≡ false → with_token [] kind ≡ bytes_of kind → writable false (kind ∷ ks) ≡ true → Reads (start (text_of (kind ∷ ks))) (kind ∷ ks)
+first_reads : (kind : TokenKind) (ks : Kinds) → is_call kind ≡ false → with_token [] kind ≡ bytes_of kind → writable false (kind ∷ ks) ≡ true
+    → Reads (start (text_of (kind ∷ ks))) (kind ∷ ks)
 first_reads kind ks plain first h =
     let is = parts_at false kind ks h in
-    let same : text_of (kind ∷ ks) ≡ bytes_of kind ++ behind ks = ap (λ u. written u ks) first ∙ first_written (bytes_of kind) ks (some_bytes kind is.1 plain) in
+    let same : text_of (kind ∷ ks) ≡ bytes_of kind ++ behind ks =
+        ap (λ u. written u ks) first ∙ first_written (bytes_of kind) ks (some_bytes kind is.1 plain) in
     subst (λ t. Reads (start t) (kind ∷ ks)) (sym same)
     (token_reads false 0 kind (bytes_of kind) (behind ks) ks (stands kind (behind ks) is.1 plain (behind_stops ks))
     (reads_behind ks (is_callee kind) (0 + length (bytes_of kind)) is.2))

@@ -20,9 +20,11 @@ mutual
   more_stmts m b (grammar.stmts_more h h') = grammar.stmts_more (more_stmt m b h) (more_stmts m b h')
 
   pub more_stmt : {n : ℕ} {ks : Kinds} {x : Stmt} (m : ℕ) → n ≤ m → IsStmt n ks x → IsStmt m ks x
-  more_stmt {ks = ks} {x = x} m b (grammar.let_is h h') = one_more (λ m. IsStmt m ks x) m b (λ m b. grammar.let_is (more_pat m b h) (more_expr m b h'))
+  more_stmt {ks = ks} {x = x} m b (grammar.let_is h h') =
+      one_more (λ m. IsStmt m ks x) m b (λ m b. grammar.let_is (more_pat m b h) (more_expr m b h'))
   more_stmt {ks = ks} {x = x} m b (grammar.let_unit h) = one_more (λ m. IsStmt m ks x) m b (λ m b. grammar.let_unit (more_expr m b h))
-  more_stmt {ks = ks} {x = x} m b (grammar.let_fun h h') = one_more (λ m. IsStmt m ks x) m b (λ m b. grammar.let_fun (more_pat m b h) (more_expr m b h'))
+  more_stmt {ks = ks} {x = x} m b (grammar.let_fun h h') =
+      one_more (λ m. IsStmt m ks x) m b (λ m b. grammar.let_fun (more_pat m b h) (more_expr m b h'))
   more_stmt {ks = ks} {x = x} m b (grammar.send h h') = one_more (λ m. IsStmt m ks x) m b (λ m b. grammar.send (more_expr m b h) (more_expr m b h'))
   more_stmt {ks = ks} {x = x} m b (grammar.create h) = one_more (λ m. IsStmt m ks x) m b (λ m b. grammar.create (more_expr m b h))
   more_stmt {ks = ks} {x = x} m b (grammar.become h) = one_more (λ m. IsStmt m ks x) m b (λ m b. grammar.become (more_expr m b h))
@@ -34,7 +36,8 @@ mutual
   more_expr m b (grammar.expr_tuple h) = grammar.expr_tuple (more_items m b h)
 
   pub more_items : {n : ℕ} {ks : Kinds} {xs : List Expr} (m : ℕ) → n ≤ m → IsItems n ks xs → IsItems m ks xs
-  more_items {ks = ks} {xs = xs} m b (grammar.item_abs h h') = one_more (λ m. IsItems m ks xs) m b (λ m b. grammar.item_abs (more_pat m b h) (more_expr m b h'))
+  more_items {ks = ks} {xs = xs} m b (grammar.item_abs h h') =
+      one_more (λ m. IsItems m ks xs) m b (λ m b. grammar.item_abs (more_pat m b h) (more_expr m b h'))
   more_items m b (grammar.item_last h) = grammar.item_last (more_term m b h)
   more_items m b (grammar.item_comma h h') = grammar.item_comma (more_term m b h) (more_items m b h')
 
@@ -43,12 +46,16 @@ mutual
   more_term {ks = ks} {a = a} m b (grammar.new h) = one_more (λ m. IsTerm m ks a) m b (λ m b. grammar.new (more_term m b h))
   more_term {ks = ks} {a = a} m b (grammar.case h h') = one_more (λ m. IsTerm m ks a) m b (λ m b. grammar.case (more_expr m b h) (more_arms m b h'))
   more_term {ks = ks} {a = a} m b (grammar.if h) = one_more (λ m. IsTerm m ks a) m b (λ m b. grammar.if (more_branches m b h))
-  more_term {ks = ks} {a = a} m b (grammar.if_else h h') = one_more (λ m. IsTerm m ks a) m b (λ m b. grammar.if_else (more_branches m b h) (more_block m b h'))
+  more_term {ks = ks} {a = a} m b (grammar.if_else h h') =
+      one_more (λ m. IsTerm m ks a) m b (λ m b. grammar.if_else (more_branches m b h) (more_block m b h'))
 
   pub more_calls : {n : ℕ} {f : Expr} {ks : Kinds} {a : Expr} (m : ℕ) → n ≤ m → IsCalls n f ks a → IsCalls m f ks a
   more_calls m b grammar.calls_done = grammar.calls_done
-  more_calls {f = f} {ks = ks} {a = a} m b (grammar.calls_unit h) = one_more (λ m. IsCalls m f ks a) m b (λ m b. grammar.calls_unit (more_calls m b h))
-  more_calls {f = f} {ks = ks} {a = a} m b (grammar.calls_call h h') = one_more (λ m. IsCalls m f ks a) m b (λ m b. one_more (λ m. IsCalls (suc m) f ks a) m b (λ m b. grammar.calls_call (more_expr m b h) (more_calls (suc m) (omega arith) h')))
+  more_calls {f = f} {ks = ks} {a = a} m b (grammar.calls_unit h) =
+      one_more (λ m. IsCalls m f ks a) m b (λ m b. grammar.calls_unit (more_calls m b h))
+  more_calls {f = f} {ks = ks} {a = a} m b (grammar.calls_call h h') =
+      one_more (λ m. IsCalls m f ks a) m b
+        (λ m b. one_more (λ m. IsCalls (suc m) f ks a) m b (λ m b. grammar.calls_call (more_expr m b h) (more_calls (suc m) (omega arith) h')))
 
   pub more_atom : {n : ℕ} {ks : Kinds} {a : Expr} (m : ℕ) → n ≤ m → IsAtom n ks a → IsAtom m ks a
   more_atom m b grammar.number = grammar.number

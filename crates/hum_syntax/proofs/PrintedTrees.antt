@@ -89,7 +89,8 @@ items_levels q r [] = refl
 items_levels q r (t ∷ ps) = refl
 
 items_fit : (x : (a : Expr) × ExprFits a) (xs : Each ExprFits) → list_all is_formed_expr (nodes (x ∷ xs)) ≡ true → (n : ℕ)
-    → (tuple (items_in (map part_of_expr (nodes (x ∷ xs))))).levels ≤ n → IsItems n (tuple (items_in (map part_of_expr (nodes (x ∷ xs))))).tokens (nodes (x ∷ xs))
+    → (tuple (items_in (map part_of_expr (nodes (x ∷ xs))))).levels ≤ n
+        → IsItems n (tuple (items_in (map part_of_expr (nodes (x ∷ xs))))).tokens (nodes (x ∷ xs))
 items_fit x [] h n below = fits_last (part_of_expr x.0) x.0 (x.1 (and_parts (is_formed_expr x.0) true h).0) n (omega arith)
 items_fit x (y ∷ ys) h n below =
     let both = and_parts (is_formed_expr x.0) (list_all is_formed_expr (nodes (y ∷ ys))) h in
@@ -98,7 +99,8 @@ items_fit x (y ∷ ys) h n below =
     (grammar.item_comma (fits_term (part_of_expr x.0) x.0 (x.1 both.0) n (omega arith)) (items_fit y ys both.1 n (omega arith)))
 
 pats_fit : (x : (a : Pat) × PatternFits a) (xs : Each PatternFits) → list_all is_formed_pat (nodes (x ∷ xs)) ≡ true → (n : ℕ)
-    → (tuple (map as_term (map part_of_pat (nodes (x ∷ xs))))).levels ≤ n → IsPats n (tuple (map as_term (map part_of_pat (nodes (x ∷ xs))))).tokens (nodes (x ∷ xs))
+    → (tuple (map as_term (map part_of_pat (nodes (x ∷ xs))))).levels ≤ n
+        → IsPats n (tuple (map as_term (map part_of_pat (nodes (x ∷ xs))))).tokens (nodes (x ∷ xs))
 pats_fit x [] h n below = grammar.pats_last (fits_pterm (part_of_pat x.0) x.0 (x.1 (and_parts (is_formed_pat x.0) true h).0) n (omega arith))
 pats_fit x (y ∷ ys) h n below =
     let both = and_parts (is_formed_pat x.0) (list_all is_formed_pat (nodes (y ∷ ys))) h in
@@ -107,7 +109,8 @@ pats_fit x (y ∷ ys) h n below =
 arms_fit : (x : (a : Arm) × ArmFits a) (xs : Each ArmFits) → list_all is_formed_arm (nodes (x ∷ xs)) ≡ true → (n : ℕ)
     → levels_in (map piece_of_arm (nodes (x ∷ xs))) ≤ n → IsArms n (in_line (map piece_of_arm (nodes (x ∷ xs)))) (nodes (x ∷ xs))
 arms_fit x [] h n below =
-    subst (λ ks. IsArms n ks (x.0 ∷ [])) (sym (append-nil (piece_of_arm x.0).tokens)) (grammar.arms_last (x.1 (and_parts (is_formed_arm x.0) true h).0 n (omega arith)))
+    subst (λ ks. IsArms n ks (x.0 ∷ [])) (sym (append-nil (piece_of_arm x.0).tokens))
+      (grammar.arms_last (x.1 (and_parts (is_formed_arm x.0) true h).0 n (omega arith)))
 arms_fit x (y ∷ ys) h n below =
     let both = and_parts (is_formed_arm x.0) (list_all is_formed_arm (nodes (y ∷ ys))) h in
     grammar.arms_more (x.1 both.0 n (omega arith)) (arms_fit y ys both.1 n (omega arith))
@@ -176,12 +179,15 @@ if_else_fits [] ys h = absurd (true≢false (sym (sym (folds.fold_if_else formed
 if_else_fits (x ∷ xs) ys h =
     let bs = nodes (x ∷ xs) in
     let some = nat_le 1 (length (map is_formed_branch bs)) in
-    let both = and_parts (some && all (map is_formed_branch bs)) (all (map is_formed_stmt (nodes ys))) (sym (folds.fold_if_else formed bs (nodes ys)) ∙ h) in
+    let both =
+        and_parts (some && all (map is_formed_branch bs)) (all (map is_formed_stmt (nodes ys))) (sym (folds.fold_if_else formed bs (nodes ys)) ∙ h) in
     let conditions = (and_parts some (all (map is_formed_branch bs)) both.0).1 in
     subst (λ q. Fits q (e.If bs (Some (nodes ys)))) (sym (folds.fold_if_else parts bs (nodes ys)))
     (deeper (max (levels_in (map piece_of_branch bs)) (levels (nodes ys)))
-    (λ n. IsTerm n (k.Keyword w.KwIf ∷ branches (map piece_of_branch bs) ++ k.Keyword w.KwElse ∷ block (map piece_of_stmt (nodes ys))) (e.If bs (Some (nodes ys))))
-    (λ n below. grammar.if_else (branches_fit x xs (all_formed is_formed_branch bs conditions) n (omega arith)) (block_fits ys both.1 n (omega arith))))
+    (λ n. IsTerm n (k.Keyword w.KwIf ∷ branches (map piece_of_branch bs) ++ k.Keyword w.KwElse ∷ block (map piece_of_stmt (nodes ys)))
+      (e.If bs (Some (nodes ys))))
+    (λ n below. grammar.if_else (branches_fit x xs (all_formed is_formed_branch bs conditions) n (omega arith))
+      (block_fits ys both.1 n (omega arith))))
 
 -- ---- the other nodes
 
@@ -198,7 +204,8 @@ abs_fits x a fits fits' h =
 name_fits : (t : List ℕ) → ExprFits (e.Var t)
 name_fits t h =
     subst (λ q. Fits q (e.Var t)) (sym (folds.fold_var parts t))
-    (record { within = omega arith; chain = λ n m below same. subst (λ m. IsChain n m (k.Name t ∷ []) (e.Var t)) (let is : suc n ≡ m = omega arith in is) (atom_chain grammar.name) })
+    (record { within = omega arith; chain = λ n m below same. subst (λ m. IsChain n m (k.Name t ∷ []) (e.Var t))
+      (let is : suc n ≡ m = omega arith in is) (atom_chain grammar.name) })
 
 block_expr_fits : (xs : Each StmtFits) → ExprFits (e.Block (nodes xs))
 block_expr_fits xs h =
@@ -210,7 +217,8 @@ block_expr_fits xs h =
       chain = λ n m below same.
           let is : suc n ≡ m = omega arith in
           subst (λ m. IsChain n m ks (e.Block (nodes xs))) is
-          (deeper (levels (nodes xs)) (λ n. IsChain n (suc n) ks (e.Block (nodes xs))) (λ n below. atom_chain (grammar.block (block_fits xs inside n below))) n below);
+          (deeper (levels (nodes xs)) (λ n. IsChain n (suc n) ks (e.Block (nodes xs)))
+            (λ n below. atom_chain (grammar.block (block_fits xs inside n below))) n below);
     })
 
 call_fits : (f a : Expr) → ExprFits f → ExprFits a → ExprFits (e.Call f a)

@@ -39,7 +39,8 @@ after-append called (u ∷ us) vs = after-append (is_callee u) us vs
 abbrev Writes : Kinds → Type 0
 Writes ks = writable false ks ≡ true
 
-writable-append : (called : Bool) (us vs : Kinds) → writable called us ≡ true → writable (after called us) vs ≡ true → writable called (us ++ vs) ≡ true
+writable-append : (called : Bool) (us vs : Kinds) → writable called us ≡ true → writable (after called us) vs ≡ true
+    → writable called (us ++ vs) ≡ true
 writable-append called [] vs h h' = h'
 writable-append called (u ∷ us) vs h h' =
     let both = and_parts ((called || not (is_call u)) && is_lexed u) (writable (is_callee u) us) h in
@@ -123,7 +124,8 @@ items_write (x ∷ y ∷ ys) h =
     let both = and_parts (is_formed_expr x.0) (list_all is_formed_expr (nodes (y ∷ ys))) h in
     let is = x.1 both.0 in
     subst Writes (sym (items_more x.0 y.0 (nodes ys)))
-    (beside (as_term q).tokens (k.Comma ∷ (tuple (items_in (map part_of_expr (nodes (y ∷ ys))))).tokens) (parens_write (is_wide q.form) q is.writes) (items_write (y ∷ ys) both.1))
+    (beside (as_term q).tokens (k.Comma ∷ (tuple (items_in (map part_of_expr (nodes (y ∷ ys))))).tokens) (parens_write (is_wide q.form) q is.writes)
+      (items_write (y ∷ ys) both.1))
 
 pats_write : (xs : Each PatternWrites) → list_all is_formed_pat (nodes xs) ≡ true → Writes (tuple (map as_term (map part_of_pat (nodes xs)))).tokens
 pats_write [] h = refl
@@ -131,7 +133,8 @@ pats_write (x ∷ []) h = let q = part_of_pat x.0 in parens_write (is_wide q.for
 pats_write (x ∷ y ∷ ys) h =
     let q = part_of_pat x.0 in
     let both = and_parts (is_formed_pat x.0) (list_all is_formed_pat (nodes (y ∷ ys))) h in
-    beside (as_term q).tokens (k.Comma ∷ (tuple (map as_term (map part_of_pat (nodes (y ∷ ys))))).tokens) (parens_write (is_wide q.form) q (x.1 both.0)) (pats_write (y ∷ ys) both.1)
+    beside (as_term q).tokens (k.Comma ∷ (tuple (map as_term (map part_of_pat (nodes (y ∷ ys))))).tokens)
+      (parens_write (is_wide q.form) q (x.1 both.0)) (pats_write (y ∷ ys) both.1)
 
 arms_write : (xs : Each ArmWrites) → list_all is_formed_arm (nodes xs) ≡ true → Writes (in_line (map piece_of_arm (nodes xs)))
 arms_write [] h = refl
@@ -144,7 +147,8 @@ branches_write [] h = refl
 branches_write (x ∷ []) h = x.1 (and_parts (is_formed_branch x.0) true h).0
 branches_write (x ∷ y ∷ ys) h =
     let both = and_parts (is_formed_branch x.0) (list_all is_formed_branch (nodes (y ∷ ys))) h in
-    beside (piece_of_branch x.0).tokens (k.Keyword w.KwElif ∷ branches (map piece_of_branch (nodes (y ∷ ys)))) (x.1 both.0) (branches_write (y ∷ ys) both.1)
+    beside (piece_of_branch x.0).tokens (k.Keyword w.KwElif ∷ branches (map piece_of_branch (nodes (y ∷ ys)))) (x.1 both.0)
+      (branches_write (y ∷ ys) both.1)
 
 -- ---- nodes
 

@@ -30,7 +30,8 @@ pub record IsNameAt (ks : Kinds) (at : ℕ) (name : Bytes) : Type 0 where
 
 -- so the name of that number in the tree has its token
 abbrev pub NamesHaveTokens : Type 0
-NamesHaveTokens = (n : ℕ) (ks : Kinds) (xs : List Stmt) → IsStmts n ks xs → (at : ℕ) (name : Bytes) → (slice_get (names_of xs) at ≡ Some name) ↔ IsNameAt ks at name
+NamesHaveTokens =
+    (n : ℕ) (ks : Kinds) (xs : List Stmt) → IsStmts n ks xs → (at : ℕ) (name : Bytes) → (slice_get (names_of xs) at ≡ Some name) ↔ IsNameAt ks at name
 
 -- a tree is no larger than its tokens weigh
 abbrev pub TreesAreLight : Type 0

@@ -23,7 +23,7 @@ pub record Piece : Type 0 where
 abbrev pub piece : Kinds → ℕ → Piece
 piece tokens levels = record { tokens = tokens; levels = levels }
 
--- the same of an expression or a pattern, with its form, and with the number of calls that it ends in
+-- the same of an expression or a pattern, with its form, and of a call with the number of calls in its chain
 pub record Part : Type 0 where
   pub form : Form
   pub tokens : Kinds
@@ -33,26 +33,29 @@ pub record Part : Type 0 where
 abbrev pub part : Form → Kinds → ℕ → ℕ → Part
 part form tokens levels calls = record { form = form; tokens = tokens; levels = levels; calls = calls }
 
+-- a part that needs parentheses nowhere but before a call
 abbrev pub term : Kinds → ℕ → Part
 term tokens levels = part form.Term tokens levels 0
 
 -- ---- parentheses
 
+-- no item of a tuple is a tuple without parentheses
 abbrev pub is_tuple : Form → Bool
 is_tuple form.Tuple = true
 is_tuple _ = false
 
--- a tuple or an abstraction
+-- no term is a tuple or an abstraction without parentheses
 abbrev pub is_wide : Form → Bool
 is_wide form.Tuple = true
 is_wide form.Abstraction = true
 is_wide _ = false
 
--- a name, a call or a block
+-- a name, a call and a block are called without parentheses
 abbrev pub is_called : Form → Bool
 is_called form.Callee = true
 is_called _ = false
 
+-- with parentheses, or as it is
 abbrev pub parens : Bool → Part → Part
 parens true p = part form.Callee (k.ParenLeft ∷ p.tokens ++ k.ParenRight ∷ []) (suc p.levels) 0
 parens false p = p
@@ -71,6 +74,7 @@ as_last p = parens (is_tuple p.form) p
 
 -- ---- lists
 
+-- the greatest number
 abbrev pub most : List ℕ → ℕ
 most [] = 0
 most (n ∷ ns) = max n (most ns)
@@ -79,6 +83,7 @@ most (n ∷ ns) = max n (most ns)
 abbrev pub in_line : List Piece → Kinds
 in_line = flat_map (λ p. p.tokens)
 
+-- the levels for each of them
 abbrev pub levels_in : List Piece → ℕ
 levels_in ps = most (map (λ p. p.levels) ps)
 
@@ -88,18 +93,21 @@ between mark [] = []
 between mark (ks ∷ []) = ks
 between mark (ks ∷ us ∷ more) = ks ++ mark ∷ between mark (us ∷ more)
 
--- the items of a tuple
+-- the items of a tuple, of which the last may be an abstraction
 abbrev pub items_in : List Part → List Part
 items_in [] = []
 items_in (p ∷ []) = as_last p ∷ []
 items_in (p ∷ q ∷ ps) = as_term p ∷ items_in (q ∷ ps)
 
+-- items with commas
 abbrev pub tuple : List Part → Part
 tuple ps = part form.Tuple (between k.Comma (map (λ p. p.tokens) ps)) (most (map (λ p. p.levels) ps)) 0
 
+-- statements in brackets
 abbrev pub block : List Piece → Kinds
 block ps = k.SquareLeft ∷ in_line ps ++ k.SquareRight ∷ []
 
+-- the branches of an `IF`, of which each but the first comes behind `ELIF`
 abbrev pub branches : List Piece → Kinds
 branches ps = between (k.Keyword w.KwElif) (map (λ p. p.tokens) ps)
 

@@ -1,4 +1,4 @@
-//! Tokens and trees of the language, and what it is for a text to lex to tokens and for tokens to spell a tree.
+//! Tokens and trees of the language, and what it is for a text to lex to tokens and for tokens to spell a tree; and the text of a tree.
 #![tactic(auto)]
 
 mod form;

@@ -238,10 +238,13 @@ fn pat_tuple(out: &mut Writer, items: &[Pat]) -> Result<(), AllocError>
     Ok(())
 }
 
-/// The text of a tree: one blank stands between tokens, and none before the parenthesis of a call.
+/// The text of a tree: one blank stands between tokens, and none before the parenthesis of a call. Only want of memory is an error.
 ///
-/// A function definition is written as `LET f = \p . e`, and the unit value as `NIL`. The tree may be of any depth, and the call takes
-/// as much stack as it is deep: trees from texts are at most 200 deep.
+/// Parentheses stand round a tuple or an abstraction where a term is wanted, round a tuple that is an item of a tuple, and round a callee
+/// that is no name, call or block. A function definition is written as `LET f = \ p . e`, and the unit value as `NIL`.
+///
+/// The text lexes to tokens that spell the tree again, wherever these are light enough and no deeper than a program may be. The tree may
+/// be of any depth, and the call takes stack for each level of it: a tree from a text is at most 200 deep.
 pub fn print(alloc: Global, tree: &Tree) -> Result<Vec<u8>, AllocError>
     ensures value { IfOk result (λ text. text.items ≡ text_of (printed tree.now.statements)) }
     ensures text { IfOk result (λ text. IsTextOf text.items tree.now.statements) }
