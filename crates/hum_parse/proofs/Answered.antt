@@ -13,7 +13,7 @@ use Rattle.hum_parse.specs.Rules.{program, program_from, stmt, inner_at}
 use Rattle.hum_parse.proofs.Exact.{Language, SameHead, Avoids, Found, Stopped, Answers}
 use Rattle.hum_parse.proofs.Levels.{Behind}
 use Rattle.hum_parse.proofs.Place.{refused_at}
-use Rattle.hum_parse.proofs.Program.{all_on, exact_program}
+use Rattle.hum_parse.proofs.ExactProgram.{all_on, exact_program}
 
 abbrev pub FormedList : List Stmt → Type 0
 FormedList xs = IsTrue (are_formed xs)

@@ -17,10 +17,10 @@ use Rattle.hum_parse.proofs.Exact.{SameHead, Found, Stopped, same_behind, exact_
 use Rattle.hum_parse.proofs.Steps.{Same, Pure, Word, Close, Begins, along, took, at_end, no_way, narrowed, begins_more, word_follows, exact_pure, exact_word, exact_made, word_is, worded, pured, unpured, pure_split, close_is, closes, pure_follows, exact_shut}
 use Rattle.hum_parse.proofs.Levels.{Behind, not_last, goes_term, goes_on, ArmsEnd, ArmsAt, BlockEnd, Below, Levels}
 use Rattle.hum_parse.proofs.First.{begins_expr, expr_begins}
-use Rattle.hum_parse.proofs.Patterns.{begins_pterm, pat_begins, exact_pat}
-use Rattle.hum_parse.proofs.Calls.{exact_calls}
-use Rattle.hum_parse.proofs.Terms.{exact_term}
-use Rattle.hum_parse.proofs.Exprs.{exact_expr, exact_arm}
+use Rattle.hum_parse.proofs.ExactPatterns.{begins_pterm, pat_begins, exact_pat}
+use Rattle.hum_parse.proofs.ExactCalls.{exact_calls}
+use Rattle.hum_parse.proofs.ExactTerms.{exact_term}
+use Rattle.hum_parse.proofs.ExactExprs.{exact_expr, exact_arm}
 use Rattle.hum_parse.proofs.Until.{Until, until_end, until_more, until_avoids, exact_until}
 
 abbrev pub begins_stmt : TokenKind → Bool

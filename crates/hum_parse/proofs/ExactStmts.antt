@@ -18,7 +18,7 @@ use Rattle.hum_parse.proofs.Steps.{Same, Pure, Word, Close, Begins, along, took,
 use Rattle.hum_parse.proofs.Levels.{Behind, not_last, goes_term, goes_on, ArmsEnd, ArmsAt, BlockEnd, Below, Levels}
 use Rattle.hum_parse.proofs.First.{begins_expr, expr_begins}
 use Rattle.hum_parse.proofs.Names.{NameIs, exact_name}
-use Rattle.hum_parse.proofs.Lets.{LetTail, exact_let}
+use Rattle.hum_parse.proofs.ExactLets.{LetTail, exact_let}
 use Rattle.hum_parse.proofs.Words.{is_word, expr_word, stmt_begins, stmt_ends}
 
 -- ---- CREATE

@@ -17,15 +17,15 @@ use Rattle.hum_parse.proofs.Exact.{SameHead, Found, Stopped, same_behind, exact_
 use Rattle.hum_parse.proofs.Steps.{Same, Pure, Word, Close, Begins, along, took, at_end, no_way, narrowed, begins_more, word_follows, exact_pure, exact_word, exact_made, word_is, worded, pured, unpured, pure_split, close_is, closes, pure_follows, exact_shut}
 use Rattle.hum_parse.proofs.Levels.{Behind, not_last, goes_term, goes_on, ArmsEnd, ArmsAt, BlockEnd, Below, Levels}
 use Rattle.hum_parse.proofs.First.{begins_expr, expr_begins}
-use Rattle.hum_parse.proofs.Patterns.{begins_pterm, pat_begins, exact_pat, exact_pat_behind}
-use Rattle.hum_parse.proofs.Calls.{exact_calls}
-use Rattle.hum_parse.proofs.Terms.{exact_term}
-use Rattle.hum_parse.proofs.Exprs.{exact_expr, exact_arm}
+use Rattle.hum_parse.proofs.ExactPatterns.{begins_pterm, pat_begins, exact_pat, exact_pat_behind}
+use Rattle.hum_parse.proofs.ExactCalls.{exact_calls}
+use Rattle.hum_parse.proofs.ExactTerms.{exact_term}
+use Rattle.hum_parse.proofs.ExactExprs.{exact_expr, exact_arm}
 use Rattle.hum_parse.proofs.Until.{Until, until_end, until_more, until_avoids, exact_until}
-use Rattle.hum_parse.proofs.Arms.{exact_arms}
+use Rattle.hum_parse.proofs.ExactArms.{exact_arms}
 use Rattle.hum_parse.proofs.Words.{begins_stmt, stmt_begins, stmt_goes}
-use Rattle.hum_parse.proofs.Stmts.{some_stmt, exact_stmt}
-use Rattle.hum_parse.proofs.Blocks.{exact_stmts}
+use Rattle.hum_parse.proofs.ExactStmts.{some_stmt, exact_stmt}
+use Rattle.hum_parse.proofs.ExactBlocks.{exact_stmts}
 
 arms_at : (n : ℕ) → Levels n (inner_at n) → ArmsAt n (inner_at (suc n))
 unfolding inner_at

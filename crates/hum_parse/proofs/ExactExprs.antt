@@ -17,8 +17,8 @@ use Rattle.hum_parse.proofs.Exact.{Language, Avoids, Answers, Exact, Ends, Then,
 use Rattle.hum_parse.proofs.Steps.{Same, Pure, Word, Or, Close, Begins, along, took, at_end, no_way, narrowed, begins_more, is_stands, no_follow, word_follows, exact_pure, exact_or, exact_branch, exact_only, exact_word, exact_made, word_is, worded, pured, unpured, pure_split, pure_follows, close_is, closes}
 use Rattle.hum_parse.proofs.Levels.{Behind, goes_term, goes_on, avoids_less, ArmsEnd, Below, Levels, not_last}
 use Rattle.hum_parse.proofs.First.{begins_expr, expr_begins, items_begins, term_begins}
-use Rattle.hum_parse.proofs.Patterns.{or_follows}
-use Rattle.hum_parse.proofs.Terms.{exact_term}
+use Rattle.hum_parse.proofs.ExactPatterns.{or_follows}
+use Rattle.hum_parse.proofs.ExactTerms.{exact_term}
 use Rattle.hum_parse.proofs.TermBy as by
 use Rattle.hum_parse.proofs.TermBy.{TermBy, First, term_first}
 

@@ -19,8 +19,8 @@ use Rattle.hum_parse.proofs.Levels.{goes_term, goes_on, ArmsEnd, BlockEnd, Below
 use Rattle.hum_parse.proofs.First.{begins_expr, expr_begins, term_begins, apart_right}
 use Rattle.hum_parse.proofs.TermBy
 use Rattle.hum_parse.proofs.TermBy.{TermBy, term_to, term_from}
-use Rattle.hum_parse.proofs.Calls.{exact_calls}
-use Rattle.hum_parse.proofs.Ifs.{exact_if}
+use Rattle.hum_parse.proofs.ExactCalls.{exact_calls}
+use Rattle.hum_parse.proofs.ExactIfs.{exact_if}
 
 term_ends : (n : ℕ) → Ends (IsTerm n)
 term_ends n = record { tail = k.Undefined ∷ []; tree = e.Undef; ends = G.chain G.undef G.calls_done }

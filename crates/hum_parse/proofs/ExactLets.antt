@@ -19,7 +19,7 @@ use Rattle.hum_parse.proofs.Exact.{SameHead, Found, Stopped, same_behind, exact_
 use Rattle.hum_parse.proofs.Steps.{Or, is_stands, exact_branch, Same, Pure, Word, Close, Begins, along, took, at_end, no_way, narrowed, begins_more, word_follows, exact_pure, exact_word, exact_made, word_is, worded, pured, unpured, pure_split, close_is, closes, pure_follows, exact_shut}
 use Rattle.hum_parse.proofs.Levels.{PatBehind, PatsRest, not_last, goes_term, goes_on, ArmsEnd, ArmsAt, BlockEnd, Below, Levels}
 use Rattle.hum_parse.proofs.First.{begins_expr, expr_begins}
-use Rattle.hum_parse.proofs.Patterns.{begins_pterm, pterm_begins, pat_begins, pat_same, only_name}
+use Rattle.hum_parse.proofs.ExactPatterns.{begins_pterm, pterm_begins, pat_begins, pat_same, only_name}
 use Rattle.hum_parse.proofs.Names.{is_name}
 use Rattle.hum_parse.proofs.Words.{expr_word, is_word}
 

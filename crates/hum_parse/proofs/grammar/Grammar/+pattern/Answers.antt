@@ -1,0 +1,24 @@
+use Rattle.std.proofs.Common.{rules, arith}
+use Rattle.std.proofs.lemmas.Grind.{common_steps}
+use Rattle.hum_parse.specs.Rules.{inner_at, pat_behind, pats_from, pterm, pterm_by, pat_inside}
+use Rattle.hum_parse.proofs.Turns.{one_more}
+use Rattle.hum_parse.proofs.Inside.{inside_pat}
+use Rattle.hum_parse.proofs.grammar.Grammar.+pattern.Goals as goal
+
+pub pat_behind-returns-then-not-eat : goal.pat_behind-returns-then-not-eat
+unfolding pat_behind pats_from
+pat_behind-returns-then-not-eat g t c =
+    let step = one_more (λ m. pats_from c.args.n (inner_at c.args.n) m c.loop-turn.found c.loop-turn.tokens) _ c.loop-turn._turn c.loop-turn-test.true c.loop-turn.invariant in
+    first_of (search rules, grind (arith, common_steps))
+
+pub pat_behind-loop-turn-preserved : goal.pat_behind-loop-turn-preserved
+unfolding pats_from
+pat_behind-loop-turn-preserved g t c =
+    let step = one_more (λ m. pats_from c.args.n (inner_at c.args.n) m c.loop-turn.found c.loop-turn.tokens) _ c.loop-turn._turn c.loop-turn-test.true c.loop-turn.invariant in
+    first_of (search rules, grind (arith, common_steps))
+
+pub pterm-returns-in_err-expect-in-ParenLeft : goal.pterm-returns-in_err-expect-in-ParenLeft
+unfolding pterm pterm_by pat_inside
+pterm-returns-in_err-expect-in-ParenLeft g t c =
+    let inside = inside_pat c.args.n (omega arith) in
+    first_of (search rules, grind (arith, common_steps))
