@@ -11,7 +11,7 @@ use Rattle.hum_syntax.specs.Spells as G
 use Rattle.hum_syntax.specs.Spells.{Kinds, branch, IsExpr, IsBranches, IsBlock, IsStmts}
 use Rattle.hum_parse.specs.declared.tokens.Mark.TheVariants as mark
 use Rattle.hum_parse.specs.Input.{Parser, pure, expect, either, and_then, is, stands}
-use Rattle.hum_parse.specs.Rules.{Inner, block, else_block, ifs_from, if_term}
+use Rattle.hum_parse.specs.Rules.{Inner, block, else_block, ifs_from, otherwise, if_term}
 use Rattle.hum_parse.proofs.Exact.{Language, Avoids, Answers, Exact, Ends, Then, exact_then}
 use Rattle.hum_parse.proofs.Steps.{Same, Pure, Word, Or, Close, Begins, along, at_end, begins_more, is_stands, stands_is, no_follow, word_follows, exact_or, exact_branch, exact_word, exact_made, word_is, worded, pured, unpured, pure_split, close_is, closes}
 use Rattle.hum_parse.proofs.Levels.{goes_term, goes_on, BlockEnd, Below, Levels}
@@ -162,7 +162,7 @@ if_ends n found = record {
 }
 
 exact_ifs_from : (n : ℕ) (inner : Inner) → Below n inner → (turns : ℕ) (found : List Branch) → Exact (suc turns) (IfTail n found) goes_term (ifs_from (suc n) inner turns found)
-unfolding ifs_from
+unfolding ifs_from otherwise
 exact_ifs_from n inner below zero found [] h = at_end (IfTail n found) goes_term (if_ends n found) (λ b y. tail_begins y)
 exact_ifs_from n inner below zero found (t ∷ ts) h = absurd (omega arith)
 exact_ifs_from n inner below (suc turns) found ts h =

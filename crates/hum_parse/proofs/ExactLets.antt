@@ -14,7 +14,7 @@ use Rattle.hum_syntax.specs.Spells as G
 use Rattle.hum_syntax.specs.Spells.{Kinds, arm, IsExpr, IsPat, IsPterm, IsStmt}
 use Rattle.hum_parse.specs.declared.tokens.Mark.TheVariants as mark
 use Rattle.hum_parse.specs.Input.{Outcome, Parser, pure, expect, either, and_then, is, stands}
-use Rattle.hum_parse.specs.Rules.{Inner, equals, function, function_inside, let_value, let_named, let_pattern, let_rule}
+use Rattle.hum_parse.specs.Rules.{Inner, equals, function, function_value, function_inside, let_value, let_named, let_pattern, let_rule}
 use Rattle.hum_parse.proofs.Exact.{SameHead, Found, Stopped, same_behind, exact_some, Language, Avoids, Answers, Exact, Ends, Then, exact_then}
 use Rattle.hum_parse.proofs.Steps.{Or, is_stands, exact_branch, Same, Pure, Word, Close, Begins, along, took, at_end, no_way, narrowed, begins_more, word_follows, exact_pure, exact_word, exact_made, word_is, worded, pured, unpured, pure_split, close_is, closes, pure_follows, exact_shut}
 use Rattle.hum_parse.proofs.Levels.{PatBehind, PatsRest, not_last, goes_term, goes_on, ArmsEnd, ArmsAt, BlockEnd, Below, Levels}
@@ -58,7 +58,7 @@ abbrev FunctionTail : ℕ → List ℕ → Language Stmt
 FunctionTail n f u b = ArgumentTail n f u b ⊎ Then (Word mark.ParenRight) (λ _. EqualsTail n (of_function f p.Nil)) u b
 
 exact_inside : (n : ℕ) (inner : Inner) → Below n inner → (f : List ℕ) (m : ℕ) → Exact (suc m) (ArgumentTail n f) goes_on (function_inside (suc n) inner f)
-unfolding function_inside
+unfolding function_inside function_value
 exact_inside n inner below f m =
     exact_then (IsPat n) goes_on (λ x. Then (Word mark.ParenRight) (λ _. EqualsTail n (of_function f x))) goes_on
       (λ x y v b t g. word_follows goes_on mark.ParenRight refl (EqualsTail n (of_function f x)) y v b t) m inner.pat
@@ -76,7 +76,7 @@ no_argument n f u b y c = one u (argument_begins n f u b y) c
     one (t ∷ u) h c = let at : t ≡ k.ParenRight = is_stands mark.ParenRight t c in let no : false ≡ true = sym (ap begins_pterm at) ∙ h in cc
 
 exact_function : (n : ℕ) (inner : Inner) → Below n inner → (f : List ℕ) (m : ℕ) → Exact (suc (suc m)) (FunctionTail n f) goes_on (function (suc n) inner f)
-unfolding function
+unfolding function function_value
 exact_function n inner below f m =
     exact_branch mark.ParenRight (EqualsTail n (of_function f p.Nil)) (ArgumentTail n f) (FunctionTail n f) goes_on (λ u b y. inl y)
       (λ u b y. inr (worded mark.ParenRight (EqualsTail n (of_function f p.Nil)) u b y)) (λ u b y. y)

@@ -12,7 +12,7 @@ use Rattle.hum_syntax.specs.Spells as G
 use Rattle.hum_syntax.specs.Spells.{Kinds, IsExpr, IsTerm, IsCalls, IsArms, IsArm, IsPat, IsStmts}
 use Rattle.hum_parse.specs.declared.tokens.Mark.TheVariants as mark
 use Rattle.hum_parse.specs.Input.{Outcome, Parser, pure, expect, either, and_then, is, stands}
-use Rattle.hum_parse.specs.Rules.{Inner, term, term_by, calls, paren_inside, block_atom, new_term, case_term, if_term}
+use Rattle.hum_parse.specs.Rules.{Inner, term, term_by, calls, paren_inside, block_atom, new_term, case_term, if_term, keyword_term, paren_term}
 use Rattle.hum_parse.proofs.Exact.{Language, Avoids, Answers, Exact, Ends, Then, exact_then}
 use Rattle.hum_parse.proofs.Steps.{Same, Pure, Word, Close, Begins, along, took, at_end, no_way, begins_more, is_stands, no_follow, word_follows, exact_branch, exact_only, exact_word, exact_made, word_is, worded, pured, unpured, pure_split, close_is, closes}
 use Rattle.hum_parse.proofs.Levels.{goes_term, goes_on, ArmsEnd, BlockEnd, Below, Levels, not_last}
@@ -215,7 +215,7 @@ myself_same n = record { to = λ u b y. TermBy.by_myself y; from = from n }
     from n u b (TermBy.by_myself y) = y
 
 term_at : (n : ℕ) (inner : Inner) → Levels n inner → (t : TokenKind) (ts : Kinds) → Answers (IsTerm n) goes_term (t ∷ ts) (term_by n inner t ts)
-unfolding term_by
+unfolding term_by keyword_term paren_term
 term_at n inner below (k.Number z) ts = by_atom n ts inner below (k.Number z) (e.Num z) (number_same n z)
 term_at n inner below (k.Symbol t) ts = by_atom n ts inner below (k.Symbol t) (e.Sym t) (symbol_same n t)
 term_at n inner below (k.Text t) ts = by_atom n ts inner below (k.Text t) (e.Text t) (text_same n t)

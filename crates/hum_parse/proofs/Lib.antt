@@ -20,3 +20,4 @@ pub mod ExactBlocks
 pub mod ExactProgram
 pub mod Answered
 pub mod Inside
+pub mod Fewer

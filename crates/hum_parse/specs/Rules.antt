@@ -2,6 +2,7 @@
 use Rattle.std.specs.Prelude.{ℕ, zero, suc, ◌-◌, ◌==◌, nat_lt, if◌then◌else◌, List, [], ◌∷◌, ◌++◌, Ok, Err, Some, None, length}
 use Rattle.hum_syntax.specs.declared.TokenKind.{TokenKind}
 use Rattle.hum_syntax.specs.declared.TokenKind.TheVariants as k
+use Rattle.hum_syntax.specs.declared.Keyword.{Keyword}
 use Rattle.hum_syntax.specs.declared.Keyword.TheVariants as w
 use Rattle.hum_syntax.specs.declared.Expr.{Expr}
 use Rattle.hum_syntax.specs.declared.Expr.TheVariants as e
@@ -28,15 +29,14 @@ pub record Inner : Type 0 where
   -- after the opening bracket
   pub block : Parser (List Stmt)
 
+-- one item stands for itself, and several are a tuple
 abbrev pub pat_of : List Pat → Pat
-pat_of [] = p.Any
 pat_of (x ∷ []) = x
-pat_of (x ∷ y ∷ xs) = p.Tuple (x ∷ y ∷ xs)
+pat_of xs = p.Tuple xs
 
 abbrev pub expr_of : List Expr → Expr
-expr_of [] = e.Undef
 expr_of (x ∷ []) = x
-expr_of (x ∷ y ∷ xs) = e.Tuple (x ∷ y ∷ xs)
+expr_of xs = e.Tuple xs
 
 -- at the token that was just taken
 abbrev pub back : {A : Type 0} → TokenKind → Parser A
@@ -143,33 +143,45 @@ module _ (n : ℕ) (inner : Inner) where
     ys ← block
     pure (e.If found (Some ys))
 
+  -- behind the last branch
+  unfoldable pub otherwise : List Branch → Parser Expr
+  otherwise found = either mark.Else (else_block found) (pure (e.If found None))
+
   unfoldable pub ifs_from : ℕ → List Branch → Parser Expr
   ifs_from zero found = refuse
   ifs_from (suc turns) found = do
     a ← inner.expr
     ys ← block
-    either mark.Elif (ifs_from turns (found ++ branch a ys ∷ []))
-      (either mark.Else (else_block (found ++ branch a ys ∷ [])) (pure (e.If (found ++ branch a ys ∷ []) None)))
+    either mark.Elif (ifs_from turns (found ++ branch a ys ∷ [])) (otherwise (found ++ branch a ys ∷ []))
 
   unfoldable pub if_term : Parser Expr
   if_term = λ ts. ifs_from (length ts) [] ts
+
+  -- after the opening parenthesis
+  unfoldable pub paren_term : Parser Expr
+  paren_term = either mark.ParenRight (calls e.Nil) (if n == 0 then refuse else paren_inside)
+
+  -- after this keyword
+  unfoldable pub keyword_term : Keyword → Parser Expr
+  keyword_term w.KwTrue = calls e.True
+  keyword_term w.KwFalse = calls e.False
+  keyword_term w.KwNil = calls e.Nil
+  keyword_term w.KwSelf = calls e.Myself
+  keyword_term w.KwNew = if n == 0 then back (k.Keyword w.KwNew) else new_term
+  keyword_term w.KwCase = if nat_lt n 2 then back (k.Keyword w.KwCase) else case_term
+  keyword_term w.KwIf = if n == 0 then back (k.Keyword w.KwIf) else if_term
+  keyword_term word = back (k.Keyword word)
 
   -- after this token
   unfoldable pub term_by : TokenKind → Parser Expr
   term_by (k.Number z) = calls (e.Num z)
   term_by (k.Symbol t) = calls (e.Sym t)
   term_by (k.Text t) = calls (e.Text t)
-  term_by (k.Keyword w.KwTrue) = calls e.True
-  term_by (k.Keyword w.KwFalse) = calls e.False
-  term_by (k.Keyword w.KwNil) = calls e.Nil
-  term_by k.Undefined = calls e.Undef
   term_by (k.Name t) = calls (e.Var t)
-  term_by (k.Keyword w.KwSelf) = calls e.Myself
-  term_by k.ParenLeft = either mark.ParenRight (calls e.Nil) (if n == 0 then refuse else paren_inside)
+  term_by k.Undefined = calls e.Undef
+  term_by k.ParenLeft = paren_term
   term_by k.SquareLeft = if n == 0 then back k.SquareLeft else block_atom
-  term_by (k.Keyword w.KwNew) = if n == 0 then back (k.Keyword w.KwNew) else new_term
-  term_by (k.Keyword w.KwCase) = if nat_lt n 2 then back (k.Keyword w.KwCase) else case_term
-  term_by (k.Keyword w.KwIf) = if n == 0 then back (k.Keyword w.KwIf) else if_term
+  term_by (k.Keyword word) = keyword_term word
   term_by t = back t
 
   unfoldable pub term : Parser Expr
@@ -222,15 +234,19 @@ module _ (n : ℕ) (inner : Inner) where
     a ← inner.expr
     pure (made a)
 
+  -- a function of this name and argument
+  unfoldable pub function_value : List ℕ → Pat → Parser Stmt
+  function_value f x = equals (λ a. s.Let (p.Bind f) (e.Abs x a))
+
   unfoldable pub function_inside : List ℕ → Parser Stmt
   function_inside f = do
     x ← inner.pat
     expect mark.ParenRight
-    equals (λ a. s.Let (p.Bind f) (e.Abs x a))
+    function_value f x
 
   -- after the name and the opening parenthesis
   unfoldable pub function : List ℕ → Parser Stmt
-  function f = either mark.ParenRight (equals (λ a. s.Let (p.Bind f) (e.Abs p.Nil a))) (function_inside f)
+  function f = either mark.ParenRight (function_value f p.Nil) (function_inside f)
 
   unfoldable pub let_value : List ℕ → Parser Stmt
   let_value f = do

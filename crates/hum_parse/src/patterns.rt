@@ -19,9 +19,6 @@ fn pat_of(mut found: Items<Pat>) -> Pat
     if found.len() == 1 {
         return found.remove(0);
     }
-    if found.is_empty() {
-        return Pat::Any;
-    }
     Pat::Tuple(found)
 }
 

@@ -1,6 +1,6 @@
 //! The tokens that are left to read.
 
-ghost use Rattle.std.specs.Prelude.{◌≡◌, ◌∷◌, [], length, MatchOption, IfOk};
+ghost use Rattle.std.specs.Prelude.{◌≡◌, ◌↔◌, ◌∷◌, [], length, IsTrue, MatchOption, IfOk};
 ghost use Rattle.hum_parse.specs.Input as spec;
 ghost use Rattle.hum_parse.specs.Input.{Reads};
 ghost use Rattle.hum_syntax.specs.Spells.{kinds};
@@ -98,6 +98,12 @@ impl<'a> Tokens<'a> {
         ensures { result ≡ length self.now }
     {
         self.rest.len()
+    }
+
+    pub fn is_empty(&self) -> bool
+        ensures { IsTrue result ↔ (self.now ≡ []) }
+    {
+        self.rest.is_empty()
     }
 
     pub fn peek(&self) -> Option<&'a TokenKind>

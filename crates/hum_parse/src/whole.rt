@@ -1,0 +1,48 @@
+//! The parser.
+
+ghost use Rattle.std.specs.Prelude.{◌≡◌, ℕ, ◌<◌, ◌^◌, ◌⊎◌, length, IfOk};
+ghost use Rattle.hum_syntax.specs.Spells.{Spells, IsStmts, deepest, kinds};
+ghost use Rattle.hum_syntax.specs.declared.Tree.{Tree};
+ghost use Rattle.hum_parse.specs.Input.{Reads};
+ghost use Rattle.hum_parse.specs.Rules as spec;
+ghost use Rattle.hum_parse.specs.Begins.{RefusedAt};
+
+use crate::grammar::{Grammar, expression};
+use crate::tokens::{Stop, Tokens};
+use hum_syntax::{Stmt, Token, Tree};
+use sqlite_items::Items;
+use std::alloc::Global;
+
+/// Why tokens spell no tree.
+#[derive(Clone, Copy, Debug, PartialEq, Eq)]
+pub enum ParseError {
+    NoMemory,
+    /// The first `at` tokens begin a program, and with the next one none begins, or there is none.
+    Refused { at: u32 },
+}
+
+/// How many levels may stand below a program's statements, which are at depth 1.
+const DEEPEST: u32 = 199;
+
+/// Statements up to the end of the tokens.
+#[tactic(auto, unfolding(crate::specs::Rules::program, crate::specs::Rules::program_from))]
+fn program(alloc: Global, tokens: &mut Tokens<'_>, n: u32) -> Result<Items<Stmt>, Stop>
+    ensures { Reads (spec.program n tokens.old) result tokens.new }
+{
+    let grammar = Grammar {
+        alloc,
+        below: expression,
+    };
+    let mut found = Items::new(alloc);
+    for _turn in 0..tokens.len() {
+        if tokens.is_empty() {
+            return Ok(found);
+        }
+        found.push(grammar.stmt(tokens, n)?)?;
+    }
+    if tokens.is_empty() {
+        Ok(found)
+    } else {
+        Err(Stop::Refused)
+    }
+}
