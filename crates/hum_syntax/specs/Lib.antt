@@ -6,3 +6,4 @@ pub mod Spells
 pub mod Formed
 pub mod Sizes
 pub mod Names
+pub mod Laws

@@ -2,6 +2,7 @@
 #![tactic(auto)]
 
 mod keyword;
+mod laws;
 #[cfg(test)]
 mod tests;
 mod token;
@@ -9,6 +10,7 @@ mod tree;
 mod word;
 
 pub use keyword::{KEYWORDS, Keyword};
+pub use laws::{names_are_spelled, names_have_tokens, spelled_trees_are_formed, trees_are_light};
 pub use token::{Token, TokenKind};
 pub use tree::{Arm, Branch, Expr, Pat, Stmt, Tree};
 pub use word::{Name, Sym, Text};

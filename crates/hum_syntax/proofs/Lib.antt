@@ -1,0 +1,4 @@
+pub mod Folding
+pub mod FormedTrees
+pub mod NamedTrees
+pub mod SizedTrees
