@@ -9,4 +9,4 @@ mod terms;
 mod tokens;
 mod whole;
 
-pub use whole::ParseError;
+pub use whole::{ParseError, parse};

@@ -46,3 +46,21 @@ fn program(alloc: Global, tokens: &mut Tokens<'_>, n: u32) -> Result<Items<Stmt>
         Err(Stop::Refused)
     }
 }
+
+/// The tree that the tokens spell, no deeper than 200.
+#[tactic(auto, using(crate::proofs::Answered::whole_rules))]
+pub fn parse(alloc: Global, tokens: &[Token]) -> Result<Tree, ParseError>
+    requires { length tokens.now < 2 ^ 32 }
+    ensures found { IfOk result (λ tree. Spells (kinds tokens.now) tree) }
+    ensures refused { (at : ℕ) → result ≡ Err (ParseError.Refused at) → RefusedAt (IsStmts deepest) (kinds tokens.now) at }
+    ensures only { (tree : Tree) → Spells (kinds tokens.now) tree → (result ≡ Ok tree) ⊎ (result ≡ Err ParseError.NoMemory) }
+{
+    let mut rest = Tokens::new(tokens);
+    match program(alloc, &mut rest, DEEPEST) {
+        Ok(statements) => Ok(Tree { statements }),
+        Err(Stop::NoMemory) => Err(ParseError::NoMemory),
+        Err(Stop::Refused) => Err(ParseError::Refused {
+            at: (tokens.len() - rest.len()) as u32,
+        }),
+    }
+}
