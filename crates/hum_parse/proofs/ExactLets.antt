@@ -31,14 +31,14 @@ exact_equals : (n : ℕ) (inner : Inner) → Below n inner → (made : Expr → 
 unfolding equals
 exact_equals n inner below made m =
     exact_word mark.Equals (Then (IsExpr n) (λ a. Pure (made a))) goes_on m (λ us. and_then (inner.expr us) (λ a. pure (made a)))
-      (exact_made (IsExpr n) goes_on made m inner.expr (below.expr (suc m)))
+    (exact_made (IsExpr n) goes_on made m inner.expr (below.expr (suc m)))
 
 equals_is : (n : ℕ) (made : Expr → Stmt) (u : Kinds) (b : Stmt) → EqualsTail n made u b
     → (vs : Kinds) × (a : Expr) × (u ≡ k.Equals ∷ vs) × (made a ≡ b) × IsExpr n vs a
 equals_is n made u b y =
-  let z = y.is_right in
-  let body : y.right ≡ z.left = pure_split (made z.first) z.left y.right z.right b z.split z.is_right in
-  (z.left, z.first, word_is mark.Equals (Then (IsExpr n) (λ a. Pure (made a))) u b y ∙ ap (λ q. k.Equals ∷ q) body, z.is_right.same, z.is_left)
+    let z = y.is_right in
+    let body : y.right ≡ z.left = pure_split (made z.first) z.left y.right z.right b z.split z.is_right in
+    (z.left, z.first, word_is mark.Equals (Then (IsExpr n) (λ a. Pure (made a))) u b y ∙ ap (λ q. k.Equals ∷ q) body, z.is_right.same, z.is_left)
 
 equals_made : (n : ℕ) (made : Expr → Stmt) (vs : Kinds) (a : Expr) → IsExpr n vs a → EqualsTail n made (k.Equals ∷ vs) (made a)
 equals_made n made vs a y = worded mark.Equals (Then (IsExpr n) (λ c. Pure (made c))) vs (made a) (pured (IsExpr n) made vs a y)
@@ -61,9 +61,9 @@ exact_inside : (n : ℕ) (inner : Inner) → Below n inner → (f : List ℕ) (m
 unfolding function_inside function_value
 exact_inside n inner below f m =
     exact_then (IsPat n) goes_on (λ x. Then (Word mark.ParenRight) (λ _. EqualsTail n (of_function f x))) goes_on
-      (λ x y v b t g. word_follows goes_on mark.ParenRight refl (EqualsTail n (of_function f x)) y v b t) m inner.pat
-      (λ x us. and_then (expect mark.ParenRight us) (λ _. equals (suc n) inner (of_function f x))) (below.pat (suc m))
-      (λ x. exact_word mark.ParenRight (EqualsTail n (of_function f x)) goes_on m (equals (suc n) inner (of_function f x)) (exact_equals n inner below (of_function f x) m))
+    (λ x y v b t g. word_follows goes_on mark.ParenRight refl (EqualsTail n (of_function f x)) y v b t) m inner.pat
+    (λ x us. and_then (expect mark.ParenRight us) (λ _. equals (suc n) inner (of_function f x))) (below.pat (suc m))
+    (λ x. exact_word mark.ParenRight (EqualsTail n (of_function f x)) goes_on m (equals (suc n) inner (of_function f x)) (exact_equals n inner below (of_function f x) m))
 
 argument_begins : (n : ℕ) (f : List ℕ) (u : Kinds) (b : Stmt) → ArgumentTail n f u b → Begins begins_pterm u
 argument_begins n f u b y = subst (Begins begins_pterm) (sym y.split) (begins_more begins_pterm y.left y.right (pat_begins y.is_left))
@@ -79,9 +79,9 @@ exact_function : (n : ℕ) (inner : Inner) → Below n inner → (f : List ℕ) 
 unfolding function function_value
 exact_function n inner below f m =
     exact_branch mark.ParenRight (EqualsTail n (of_function f p.Nil)) (ArgumentTail n f) (FunctionTail n f) goes_on (λ u b y. inl y)
-      (λ u b y. inr (worded mark.ParenRight (EqualsTail n (of_function f p.Nil)) u b y)) (λ u b y. y)
-      (λ b y off. argument_begins n f [] b y) (no_argument n f) (suc m) (equals (suc n) inner (of_function f p.Nil)) (function_inside (suc n) inner f)
-      (exact_equals n inner below (of_function f p.Nil) m) (exact_inside n inner below f (suc m))
+    (λ u b y. inr (worded mark.ParenRight (EqualsTail n (of_function f p.Nil)) u b y)) (λ u b y. y)
+    (λ b y off. argument_begins n f [] b y) (no_argument n f) (suc m) (equals (suc n) inner (of_function f p.Nil)) (function_inside (suc n) inner f)
+    (exact_equals n inner below (of_function f p.Nil) m) (exact_inside n inner below f (suc m))
 
 -- ---- behind a name
 
@@ -95,8 +95,8 @@ exact_value : (n : ℕ) (inner : Inner) → Below n inner → (f : List ℕ) (m 
 unfolding let_value
 exact_value n inner below f m =
     exact_then (PatBehind n (p.Bind f)) goes_on (λ x. EqualsTail n (of_value x)) goes_on
-      (λ x y v b t g. word_follows goes_on mark.Equals refl (Then (IsExpr n) (λ a. Pure (of_value x a))) y v b t) m (inner.pat_behind (p.Bind f))
-      (λ x. equals (suc n) inner (of_value x)) (below.pat_behind (p.Bind f) (suc m)) (λ x. exact_equals n inner below (of_value x) m)
+    (λ x y v b t g. word_follows goes_on mark.Equals refl (Then (IsExpr n) (λ a. Pure (of_value x a))) y v b t) m (inner.pat_behind (p.Bind f))
+    (λ x. equals (suc n) inner (of_value x)) (below.pat_behind (p.Bind f) (suc m)) (λ x. exact_equals n inner below (of_value x) m)
 
 -- a pattern goes on with a comma, or the equals sign comes
 abbrev is_value : TokenKind → Bool
@@ -106,10 +106,10 @@ is_value _ = false
 
 value_begins : (n : ℕ) (f : List ℕ) (u : Kinds) (b : Stmt) → ValueTail n f u b → Begins is_value u
 value_begins n f u b y =
-  let items = y.is_left in
-  let equal = equals_is n (of_value y.first) y.right b y.is_right in
-  let left : y.left ≡ items.left = pure_split _ items.left y.left items.right y.first items.split items.is_right in
-  subst (Begins is_value) (sym (y.split ∙ ap (λ z. z ++ y.right) left ∙ ap (λ z. items.left ++ z) equal.2)) (one items.left items.first equal.0 items.is_left)
+    let items = y.is_left in
+    let equal = equals_is n (of_value y.first) y.right b y.is_right in
+    let left : y.left ≡ items.left = pure_split _ items.left y.left items.right y.first items.split items.is_right in
+    subst (Begins is_value) (sym (y.split ∙ ap (λ z. z ++ y.right) left ∙ ap (λ z. items.left ++ z) equal.2)) (one items.left items.first equal.0 items.is_left)
   where
     one : (us : Kinds) (xs : List Pat) (vs : Kinds) → PatsRest n (p.Bind f ∷ []) us xs → Begins is_value (us ++ k.Equals ∷ vs)
     one us xs vs (inl z) = subst (λ q. Begins is_value (q ++ k.Equals ∷ vs)) (sym z.none) refl
@@ -127,9 +127,9 @@ exact_named : (n : ℕ) (inner : Inner) → Below n inner → (f : List ℕ) (m 
 unfolding let_named
 exact_named n inner below f m =
     exact_branch mark.CallParen (FunctionTail n f) (ValueTail n f) (NamedTail n f) goes_on (λ u b y. inl y)
-      (λ u b y. inr (worded mark.CallParen (FunctionTail n f) u b y)) (λ u b y. y)
-      (λ b y off. value_begins n f [] b y) (no_value n f) (suc (suc m)) (function (suc n) inner f) (let_value (suc n) inner f)
-      (exact_function n inner below f m) (exact_value n inner below f (suc (suc m)))
+    (λ u b y. inr (worded mark.CallParen (FunctionTail n f) u b y)) (λ u b y. y)
+    (λ b y off. value_begins n f [] b y) (no_value n f) (suc (suc m)) (function (suc n) inner f) (let_value (suc n) inner f)
+    (exact_function n inner below f m) (exact_value n inner below f (suc (suc m)))
 
 -- ---- whole
 
@@ -141,8 +141,8 @@ PatternTail n = Then (IsPat n) (λ x. EqualsTail n (of_value x))
 
 pattern_to : (n : ℕ) (u : Kinds) (b : Stmt) → PatternTail n u b → LetTail n u b
 pattern_to n u b y =
-  let equal = equals_is n (of_value y.first) y.right b y.is_right in
-  subst (λ q. IsStmt (suc n) (k.Keyword w.KwLet ∷ q) b) (sym (y.split ∙ ap (λ q. y.left ++ q) equal.2))
+    let equal = equals_is n (of_value y.first) y.right b y.is_right in
+    subst (λ q. IsStmt (suc n) (k.Keyword w.KwLet ∷ q) b) (sym (y.split ∙ ap (λ q. y.left ++ q) equal.2))
     (subst (λ q. IsStmt (suc n) (k.Keyword w.KwLet ∷ (y.left ++ k.Equals ∷ equal.0)) q) equal.3 (G.let_is y.is_left equal.4))
 
 pattern_from : (n : ℕ) (u : Kinds) (b : Stmt) → LetTail n u b → PatternTail n u b ⊎ Begins is_name u
@@ -156,50 +156,61 @@ exact_pattern : (n : ℕ) (inner : Inner) → Below n inner → (m : ℕ) → Ex
 unfolding let_pattern
 exact_pattern n inner below m =
     exact_then (IsPat n) goes_on (λ x. EqualsTail n (of_value x)) goes_on
-      (λ x y v b t g. word_follows goes_on mark.Equals refl (Then (IsExpr n) (λ a. Pure (of_value x a))) y v b t) m inner.pat
-      (λ x. equals (suc n) inner (of_value x)) (below.pat (suc m)) (λ x. exact_equals n inner below (of_value x) m)
+    (λ x y v b t g. word_follows goes_on mark.Equals refl (Then (IsExpr n) (λ a. Pure (of_value x a))) y v b t) m inner.pat
+    (λ x. equals (suc n) inner (of_value x)) (below.pat (suc m)) (λ x. exact_equals n inner below (of_value x) m)
 
 -- a pattern that begins with a name
 value_of : (n : ℕ) (f : List ℕ) (u v : Kinds) (x : Pat) (b : Stmt) → IsPat n u x → EqualsTail n (of_value x) v b
     → (us : Kinds) → u ++ v ≡ k.Name f ∷ us → ValueTail n f us b
 value_of n f u v x b y z us e =
-  let parts = (pat_same n).from u x y in
-  one parts.left parts.first parts.right parts.is_left parts.is_right (sym (ap (λ q. q ++ v) parts.split) ∙ e)
+    let parts = (pat_same n).from u x y in
+    one parts.left parts.first parts.right parts.is_left parts.is_right (sym (ap (λ q. q ++ v) parts.split) ∙ e)
   where
     one : (left : Kinds) (c : Pat) (right : Kinds) → IsPterm n left c → PatBehind n c right x → (left ++ right) ++ v ≡ k.Name f ∷ us → ValueTail n f us b
     one [] c right h r d = absurd (pterm_begins h)
     one (t ∷ left) c right h r d =
-      let heads : t ≡ k.Name f = cc in
-      let tails : (left ++ right) ++ v ≡ us = cc in
-      let only : Pure (p.Bind f) left c = only_name f left c (subst (λ q. IsPterm n (q ∷ left) c) heads h) in
-      record {
-        left = right; right = v; split = sym tails ∙ ap (λ q. (q ++ right) ++ v) only.none; first = x;
-        is_left = subst (λ q. PatBehind n q right x) (sym only.same) r; is_right = z;
-      }
+        let heads : t ≡ k.Name f = cc in
+        let tails : (left ++ right) ++ v ≡ us = cc in
+        let only : Pure (p.Bind f) left c = only_name f left c (subst (λ q. IsPterm n (q ∷ left) c) heads h) in
+        record {
+          left = right;
+          right = v;
+          split = sym tails ∙ ap (λ q. (q ++ right) ++ v) only.none;
+          first = x;
+          is_left = subst (λ q. PatBehind n q right x) (sym only.same) r;
+          is_right = z;
+        }
 
 named_from : (n : ℕ) (f : List ℕ) (ts : Kinds) (b : Stmt) → LetTail n ts b → (us : Kinds) → ts ≡ k.Name f ∷ us → NamedTail n f us b
 named_from n f ts b (G.let_is {us = u} {vs = v} {x = x} {a = a} y z) us e = inl (value_of n f u (k.Equals ∷ v) x b y (equals_made n (of_value x) v a z) us e)
 named_from n f ts b (G.let_unit {f = g} {vs = v} {a = a} z) us e =
-  let names : g ≡ f = cc in
-  let tails : k.CallParen ∷ k.ParenRight ∷ k.Equals ∷ v ≡ us = cc in
-  subst (λ q. NamedTail n f q b) tails (inr (worded mark.CallParen (FunctionTail n f) (k.ParenRight ∷ k.Equals ∷ v) b
+    let names : g ≡ f = cc in
+    let tails : k.CallParen ∷ k.ParenRight ∷ k.Equals ∷ v ≡ us = cc in
+    subst (λ q. NamedTail n f q b) tails (inr (worded mark.CallParen (FunctionTail n f) (k.ParenRight ∷ k.Equals ∷ v) b
     (inr (worded mark.ParenRight (EqualsTail n (of_function f p.Nil)) (k.Equals ∷ v) b
-      (subst (λ q. EqualsTail n (of_function f p.Nil) (k.Equals ∷ v) (of_function q p.Nil a)) (sym names) (equals_made n (of_function f p.Nil) v a z))))))
+    (subst (λ q. EqualsTail n (of_function f p.Nil) (k.Equals ∷ v) (of_function q p.Nil a)) (sym names) (equals_made n (of_function f p.Nil) v a z))))))
 named_from n f ts b (G.let_fun {f = g} {us = u} {vs = v} {x = x} {a = a} y z) us e =
-  let names : g ≡ f = cc in
-  let tails : k.CallParen ∷ (u ++ k.ParenRight ∷ k.Equals ∷ v) ≡ us = cc in
-  subst (λ q. NamedTail n f q b) tails (inr (worded mark.CallParen (FunctionTail n f) (u ++ k.ParenRight ∷ k.Equals ∷ v) b
+    let names : g ≡ f = cc in
+    let tails : k.CallParen ∷ (u ++ k.ParenRight ∷ k.Equals ∷ v) ≡ us = cc in
+    subst (λ q. NamedTail n f q b) tails (inr (worded mark.CallParen (FunctionTail n f) (u ++ k.ParenRight ∷ k.Equals ∷ v) b
     (inl (record {
-      left = u; right = k.ParenRight ∷ k.Equals ∷ v; split = refl; first = x; is_left = y;
+      left = u;
+      right = k.ParenRight ∷ k.Equals ∷ v;
+      split = refl;
+      first = x;
+      is_left = y;
       is_right = worded mark.ParenRight (EqualsTail n (of_function f x)) (k.Equals ∷ v) b
-        (subst (λ q. EqualsTail n (of_function f x) (k.Equals ∷ v) (of_function q x a)) (sym names) (equals_made n (of_function f x) v a z));
+          (subst (λ q. EqualsTail n (of_function f x) (k.Equals ∷ v) (of_function q x a)) (sym names) (equals_made n (of_function f x) v a z));
     }))))
 named_from n f ts b (G.does {a = a} y) us e = absurd (expr_word (k.Keyword w.KwLet ∷ ts) a n y refl)
 
 named_to : (n : ℕ) (f : List ℕ) (u : Kinds) (b : Stmt) → NamedTail n f u b → LetTail n (k.Name f ∷ u) b
 named_to n f u b (inl y) =
     pattern_to n (k.Name f ∷ u) b (record {
-      left = k.Name f ∷ y.left; right = y.right; split = ap (λ q. k.Name f ∷ q) y.split; first = y.first;
+      left = k.Name f ∷ y.left;
+      right = y.right;
+      split = ap (λ q. k.Name f ∷ q) y.split;
+      first = y.first;
       is_left = (pat_same n).to (k.Name f ∷ y.left) y.first (record { left = k.Name f ∷ []; right = y.left; split = refl; first = p.Bind f; is_left = G.p_name; is_right = y.is_left });
       is_right = y.is_right;
     })
@@ -207,15 +218,15 @@ named_to n f u b (inr y) = subst (λ q. LetTail n (k.Name f ∷ q) b) (sym (word
   where
     inside : (u : Kinds) → FunctionTail n f u b → LetTail n (k.Name f ∷ k.CallParen ∷ u) b
     inside u (inl y) =
-      let equal = equals_is n (of_function f y.first) y.is_right.right b y.is_right.is_right in
-      let all : u ≡ y.left ++ k.ParenRight ∷ k.Equals ∷ equal.0 =
-            y.split ∙ ap (λ q. y.left ++ q) (word_is mark.ParenRight (EqualsTail n (of_function f y.first)) y.right b y.is_right ∙ ap (λ q. k.ParenRight ∷ q) equal.2) in
-      subst (λ q. IsStmt (suc n) (k.Keyword w.KwLet ∷ k.Name f ∷ k.CallParen ∷ q) b) (sym all)
+        let equal = equals_is n (of_function f y.first) y.is_right.right b y.is_right.is_right in
+        let all : u ≡ y.left ++ k.ParenRight ∷ k.Equals ∷ equal.0 =
+        y.split ∙ ap (λ q. y.left ++ q) (word_is mark.ParenRight (EqualsTail n (of_function f y.first)) y.right b y.is_right ∙ ap (λ q. k.ParenRight ∷ q) equal.2) in
+        subst (λ q. IsStmt (suc n) (k.Keyword w.KwLet ∷ k.Name f ∷ k.CallParen ∷ q) b) (sym all)
         (subst (λ q. IsStmt (suc n) (k.Keyword w.KwLet ∷ k.Name f ∷ k.CallParen ∷ (y.left ++ k.ParenRight ∷ k.Equals ∷ equal.0)) q) equal.3 (G.let_fun y.is_left equal.4))
     inside u (inr y) =
-      let equal = equals_is n (of_function f p.Nil) y.right b y.is_right in
-      let all : u ≡ k.ParenRight ∷ k.Equals ∷ equal.0 = word_is mark.ParenRight (EqualsTail n (of_function f p.Nil)) u b y ∙ ap (λ q. k.ParenRight ∷ q) equal.2 in
-      subst (λ q. IsStmt (suc n) (k.Keyword w.KwLet ∷ k.Name f ∷ k.CallParen ∷ q) b) (sym all)
+        let equal = equals_is n (of_function f p.Nil) y.right b y.is_right in
+        let all : u ≡ k.ParenRight ∷ k.Equals ∷ equal.0 = word_is mark.ParenRight (EqualsTail n (of_function f p.Nil)) u b y ∙ ap (λ q. k.ParenRight ∷ q) equal.2 in
+        subst (λ q. IsStmt (suc n) (k.Keyword w.KwLet ∷ k.Name f ∷ k.CallParen ∷ q) b) (sym all)
         (subst (λ q. IsStmt (suc n) (k.Keyword w.KwLet ∷ k.Name f ∷ k.CallParen ∷ k.ParenRight ∷ k.Equals ∷ equal.0) q) equal.3 (G.let_unit equal.4))
 
 let_some : (n : ℕ) (b : Stmt) → LetTail n [] b → ⊥
@@ -233,6 +244,6 @@ unfolding let_rule
 exact_let n inner below [] = by_pattern n inner below [] tt
 exact_let n inner below (k.Name f ∷ ts) =
     took (LetTail n) goes_on (k.Name f) ts (let_named (suc n) inner f ts) (λ b y off. let_some n b y)
-      (along (NamedTail n f) (λ us. LetTail n (k.Name f ∷ us)) goes_on ts (let_named (suc n) inner f ts)
-        (record { to = named_to n f; from = λ u b y. named_from n f (k.Name f ∷ u) b y u refl }) (exact_named n inner below f (length ts) ts (omega arith)))
+    (along (NamedTail n f) (λ us. LetTail n (k.Name f ∷ us)) goes_on ts (let_named (suc n) inner f ts)
+    (record { to = named_to n f; from = λ u b y. named_from n f (k.Name f ∷ u) b y u refl }) (exact_named n inner below f (length ts) ts (omega arith)))
 exact_let n inner below (t ∷ ts) = by_pattern n inner below (t ∷ ts) refl

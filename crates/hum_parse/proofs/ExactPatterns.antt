@@ -44,7 +44,7 @@ pterm_begins G.p_empty = refl
 pterm_begins (G.p_paren x) = refl
 
 pterm_ends : (n : ℕ) → Ends (IsPterm n)
-pterm_ends n = record { tail = k.Wildcard ∷ []; tree = p.Any; ends = G.p_any }
+pterm_ends n = record { tail = k.Wildcard ∷ []; carried = refl; tree = p.Any; ends = G.p_any }
 
 module _ (n : ℕ) (g : TokenKind → Bool) (ts : Kinds) where
   -- a pattern that is one token
@@ -55,7 +55,6 @@ module _ (n : ℕ) (g : TokenKind → Bool) (ts : Kinds) where
 
   not_here : (t : TokenKind) → begins_pterm t ≡ false → Answers (IsPterm n) g (t ∷ ts) (Err (t ∷ ts))
   not_here t off = no_way (IsPterm n) g t ts (pterm_ends n) (λ b y. pterm_begins y) (λ u b y. let no : true ≡ false = sym (pterm_begins y) ∙ off in cc)
-
 
 -- What stands behind a token, by the cases of the grammar.
 only_any : {n : ℕ} (u : Kinds) (b : Pat) → IsPterm n (k.Wildcard ∷ u) b → Pure p.Any u b
@@ -92,8 +91,9 @@ value_same n = record { to = to; from = from }
   where
     to : (u : Kinds) (b : Pat) → ValueTail n u b → IsPterm (suc n) (k.Dollar ∷ u) b
     to u b y =
-      let all : u ≡ y.left = y.split ∙ ap (λ z. y.left ++ z) y.is_right.none ∙ append-nil y.left in
-      subst (λ z. IsPterm (suc n) (k.Dollar ∷ u) z) y.is_right.same (subst (λ z. IsPterm (suc n) (k.Dollar ∷ z) (p.Value y.first)) (sym all) (G.p_value y.is_left))
+        let all : u ≡ y.left = y.split ∙ ap (λ z. y.left ++ z) y.is_right.none ∙ append-nil y.left in
+        subst (λ z. IsPterm (suc n) (k.Dollar ∷ u) z) y.is_right.same (subst (λ z. IsPterm (suc n) (k.Dollar ∷ z) (p.Value y.first)) (sym all) (G.p_value y.is_left))
+
     from : (u : Kinds) (b : Pat) → IsPterm (suc n) (k.Dollar ∷ u) b → ValueTail n u b
     from u b (G.p_value a) = record { left = u; right = []; split = sym (append-nil u); first = _; is_left = a; is_right = record { none = refl; same = refl } }
 
@@ -129,9 +129,9 @@ pat_begins (G.pat_tuple xs) = pats_begins xs
 
 paren_to : (n : ℕ) (u : Kinds) (b : Pat) → ParenTail n u b → IsPterm (suc n) (k.ParenLeft ∷ u) b
 paren_to n u b y =
-  let inner : y.right ≡ k.ParenRight ∷ [] = y.is_right.split ∙ ap (λ z. z ++ y.is_right.right) y.is_right.is_left ∙ ap (λ z. k.ParenRight ∷ z) y.is_right.is_right.none in
-  let all : u ≡ y.left ++ k.ParenRight ∷ [] = y.split ∙ ap (λ z. y.left ++ z) inner in
-  subst (λ z. IsPterm (suc n) (k.ParenLeft ∷ u) z) y.is_right.is_right.same (subst (λ z. IsPterm (suc n) (k.ParenLeft ∷ z) y.first) (sym all) (G.p_paren y.is_left))
+    let inner : y.right ≡ k.ParenRight ∷ [] = y.is_right.split ∙ ap (λ z. z ++ y.is_right.right) y.is_right.is_left ∙ ap (λ z. k.ParenRight ∷ z) y.is_right.is_right.none in
+    let all : u ≡ y.left ++ k.ParenRight ∷ [] = y.split ∙ ap (λ z. y.left ++ z) inner in
+    subst (λ z. IsPterm (suc n) (k.ParenLeft ∷ u) z) y.is_right.is_right.same (subst (λ z. IsPterm (suc n) (k.ParenLeft ∷ z) y.first) (sym all) (G.p_paren y.is_left))
 
 paren_from : (n : ℕ) (u : Kinds) (b : Pat) → IsPterm (suc n) (k.ParenLeft ∷ u) b → ParenTail n u b ⊎ Close mark.ParenRight p.Nil u b
 paren_from n u b G.p_empty = inr (closes mark.ParenRight p.Nil)
@@ -149,8 +149,9 @@ shut_same = record { to = to; from = from }
   where
     to : (u : Kinds) (b : Pat) → Close mark.ParenRight p.Nil u b → IsPterm 0 (k.ParenLeft ∷ u) b
     to u b y =
-      let all : u ≡ k.ParenRight ∷ [] = y.split ∙ ap (λ z. z ++ y.right) y.is_left ∙ ap (λ z. k.ParenRight ∷ z) y.is_right.none in
-      subst (λ z. IsPterm 0 (k.ParenLeft ∷ u) z) y.is_right.same (subst (λ z. IsPterm 0 (k.ParenLeft ∷ z) p.Nil) (sym all) G.p_empty)
+        let all : u ≡ k.ParenRight ∷ [] = y.split ∙ ap (λ z. z ++ y.right) y.is_left ∙ ap (λ z. k.ParenRight ∷ z) y.is_right.none in
+        subst (λ z. IsPterm 0 (k.ParenLeft ∷ u) z) y.is_right.same (subst (λ z. IsPterm 0 (k.ParenLeft ∷ z) p.Nil) (sym all) G.p_empty)
+
     from : (u : Kinds) (b : Pat) → IsPterm 0 (k.ParenLeft ∷ u) b → Close mark.ParenRight p.Nil u b
     from u b G.p_empty = closes mark.ParenRight p.Nil
 
@@ -174,11 +175,11 @@ pterm_at (suc n) inner below k.Dollar ts =
 pterm_at zero inner below k.ParenLeft ts =
     took (IsPterm 0) goes_term k.ParenLeft ts (either mark.ParenRight (pure p.Nil) (λ ts. Err ts) ts) (λ b y off. pterm_begins y)
     (along (Close mark.ParenRight p.Nil) (λ us. IsPterm 0 (k.ParenLeft ∷ us)) goes_term ts (either mark.ParenRight (pure p.Nil) (λ ts. Err ts) ts) shut_same
-      (exact_shut mark.ParenRight p.Nil goes_term (length ts) ts (omega arith)))
+    (exact_shut mark.ParenRight p.Nil goes_term (length ts) ts (omega arith)))
 pterm_at (suc n) inner below k.ParenLeft ts =
     rw not_last (took (IsPterm (suc n)) goes_term k.ParenLeft ts (either mark.ParenRight (pure p.Nil) (pat_inside (suc n) inner) ts) (λ b y off. pterm_begins y)
     (exact_else mark.ParenRight p.Nil (ParenTail n) (λ us. IsPterm (suc n) (k.ParenLeft ∷ us)) goes_term (paren_to n) G.p_empty (paren_from n)
-      (λ b y. paren_some n [] b y) (λ u b y c. apart_right u (paren_some n u b y) c) (length ts) (pat_inside (suc n) inner) (exact_paren n inner below goes_term (length ts)) ts (omega arith)))
+    (λ b y. paren_some n [] b y) (λ u b y c. apart_right u (paren_some n u b y) c) (length ts) (pat_inside (suc n) inner) (exact_paren n inner below goes_term (length ts)) ts (omega arith)))
 pterm_at n inner below t ts = not_here n goes_term ts t refl
 
 pub exact_pterm : (n : ℕ) (inner : Inner) → Levels n inner → (m : ℕ) → Exact m (IsPterm n) goes_term (pterm n inner)
@@ -196,7 +197,8 @@ pats_same n found = record { to = to; from = from }
   where
     joined : (left right : Kinds) (x : Pat) (b : List Pat) → IsPterm n left x → Or mark.Comma (found ++ x ∷ []) (Behind (found ++ x ∷ []) (IsPats n)) right b → Behind found (IsPats n) (left ++ right) b
     joined left right x b p (inl y) = record {
-      more = x ∷ []; is = y.same;
+      more = x ∷ [];
+      is = y.same;
       spelled = subst (λ z. IsPats n z (x ∷ [])) (sym (ap (λ z. left ++ z) y.none ∙ append-nil left)) (G.pats_last p);
     }
     joined left right x b p (inr y) = record {
@@ -204,14 +206,21 @@ pats_same n found = record { to = to; from = from }
       is = sym (append_assoc found (x ∷ []) y.is_right.more) ∙ y.is_right.is;
       spelled = subst (λ z. IsPats n (left ++ z) (x ∷ y.is_right.more)) (sym (y.split ∙ ap (λ z. z ++ y.right) y.is_left)) (G.pats_comma p y.is_right.spelled);
     }
+
     to : (u : Kinds) (b : List Pat) → PatsTail n found u b → Behind found (IsPats n) u b
     to u b y = subst (λ z. Behind found (IsPats n) z b) (sym y.split) (joined y.left y.right y.first b y.is_left y.is_right)
+
     parted : (u : Kinds) (xs b : List Pat) → IsPats n u xs → found ++ xs ≡ b → PatsTail n found u b
     parted u xs b (G.pats_last p) e = record { left = u; right = []; split = sym (append-nil u); first = _; is_left = p; is_right = inl (record { none = refl; same = e }) }
     parted u xs b (G.pats_comma {us = us} {vs = vs} {x = x} {xs = ys} p ps) e = record {
-      left = us; right = k.Comma ∷ vs; split = refl; first = x; is_left = p;
+      left = us;
+      right = k.Comma ∷ vs;
+      split = refl;
+      first = x;
+      is_left = p;
       is_right = inr (record { left = k.Comma ∷ []; right = vs; split = refl; first = tt; is_left = refl; is_right = record { more = ys; is = append_assoc found (x ∷ []) ys ∙ e; spelled = ps } });
     }
+
     from : (u : Kinds) (b : List Pat) → Behind found (IsPats n) u b → PatsTail n found u b
     from u b y = parted u y.more b y.spelled y.is
 
@@ -227,11 +236,11 @@ exact_pats_from n inner below zero found [] h =
 exact_pats_from n inner below zero found (t ∷ ts) h = absurd (omega arith)
 exact_pats_from n inner below (suc turns) found ts h =
     exact_or mark.Comma found (Behind found (IsPats n)) goes_on refl (suc turns) (λ us. and_then (pterm n inner us) (λ x. pats_from n inner turns (found ++ x ∷ [])))
-      (λ us l. along (PatsTail n found) (Behind found (IsPats n)) goes_on us (and_then (pterm n inner us) (λ x. pats_from n inner turns (found ++ x ∷ []))) (pats_same n found)
-        (exact_then (IsPterm n) goes_term (λ x. PatsRest n (found ++ x ∷ [])) goes_on
-          (λ x y v b t f. or_follows (found ++ x ∷ []) (Behind (found ++ x ∷ []) (IsPats n)) y v b t f) turns (pterm n inner)
-          (λ x. pats_from n inner turns (found ++ x ∷ [])) (exact_pterm n inner below (suc turns))
-          (λ x. exact_pats_from n inner below turns (found ++ x ∷ [])) us l)) ts h
+    (λ us l. along (PatsTail n found) (Behind found (IsPats n)) goes_on us (and_then (pterm n inner us) (λ x. pats_from n inner turns (found ++ x ∷ []))) (pats_same n found)
+    (exact_then (IsPterm n) goes_term (λ x. PatsRest n (found ++ x ∷ [])) goes_on
+    (λ x y v b t f. or_follows (found ++ x ∷ []) (Behind (found ++ x ∷ []) (IsPats n)) y v b t f) turns (pterm n inner)
+    (λ x. pats_from n inner turns (found ++ x ∷ [])) (exact_pterm n inner below (suc turns))
+    (λ x. exact_pats_from n inner below turns (found ++ x ∷ [])) us l)) ts h
 
 -- ---- a pattern
 
@@ -242,7 +251,7 @@ exact_pat_behind n inner below x m ts h =
 
 pat_behind_follows : (n : ℕ) (x : Pat) (y v : Kinds) (b : Pat) → PatBehind n x y b → Avoids goes_on v → Avoids goes_term (y ++ v)
 pat_behind_follows n x y v b t f =
-  subst (λ z. Avoids goes_term (z ++ v)) (sym (pure_split (pat_of t.first) t.left y t.right b t.split t.is_right))
+    subst (λ z. Avoids goes_term (z ++ v)) (sym (pure_split (pat_of t.first) t.left y t.right b t.split t.is_right))
     (or_follows (x ∷ []) (Behind (x ∷ []) (IsPats n)) t.left v t.first t.is_left f)
 
 pub pat_same : (n : ℕ) → Same (Then (IsPterm n) (PatBehind n)) (IsPat n)
@@ -252,15 +261,18 @@ pat_same n = record { to = to; from = from }
     made u [] ys h e = elim h [ ]
     made u (x ∷ []) ys h e = subst (λ z. IsPat n u (pat_of z)) e (G.pat_only h)
     made u (x ∷ y ∷ xs) ys h e = subst (λ z. IsPat n u (pat_of z)) e (G.pat_tuple h)
+
     to : (u : Kinds) (b : Pat) → Then (IsPterm n) (PatBehind n) u b → IsPat n u b
     to u b y =
-      let z = y.is_right in
-      let all : u ≡ y.left ++ z.left = y.split ∙ ap (λ s. y.left ++ s) (pure_split (pat_of z.first) z.left y.right z.right b z.split z.is_right) in
-      let xs : Behind [] (IsPats n) (y.left ++ z.left) z.first =
-            (pats_same n []).to (y.left ++ z.left) z.first (record { left = y.left; right = z.left; split = refl; first = y.first; is_left = y.is_left; is_right = z.is_left }) in
-      subst (λ s. IsPat n s b) (sym all) (subst (λ s. IsPat n (y.left ++ z.left) s) z.is_right.same (made (y.left ++ z.left) xs.more z.first xs.spelled xs.is))
+        let z = y.is_right in
+        let all : u ≡ y.left ++ z.left = y.split ∙ ap (λ s. y.left ++ s) (pure_split (pat_of z.first) z.left y.right z.right b z.split z.is_right) in
+        let xs : Behind [] (IsPats n) (y.left ++ z.left) z.first =
+        (pats_same n []).to (y.left ++ z.left) z.first (record { left = y.left; right = z.left; split = refl; first = y.first; is_left = y.is_left; is_right = z.is_left }) in
+        subst (λ s. IsPat n s b) (sym all) (subst (λ s. IsPat n (y.left ++ z.left) s) z.is_right.same (made (y.left ++ z.left) xs.more z.first xs.spelled xs.is))
+
     parted : (u : Kinds) (xs : List Pat) → PatsTail n [] u xs → Then (IsPterm n) (PatBehind n) u (pat_of xs)
     parted u xs y = record { left = y.left; right = y.right; split = y.split; first = y.first; is_left = y.is_left; is_right = pured (PatsRest n (y.first ∷ [])) pat_of y.right xs y.is_right }
+
     from : (u : Kinds) (b : Pat) → IsPat n u b → Then (IsPterm n) (PatBehind n) u b
     from u b (G.pat_only h) = parted u (b ∷ []) ((pats_same n []).from u (b ∷ []) (record { more = b ∷ []; is = refl; spelled = h }))
     from u b (G.pat_tuple {x = x} {y = y} {xs = xs} h) = parted u (x ∷ y ∷ xs) ((pats_same n []).from u (x ∷ y ∷ xs) (record { more = x ∷ y ∷ xs; is = refl; spelled = h }))
@@ -270,4 +282,4 @@ unfolding pat
 exact_pat n inner below m ts h =
     along (Then (IsPterm n) (PatBehind n)) (IsPat n) goes_on ts (pat n inner ts) (pat_same n)
     (exact_then (IsPterm n) goes_term (PatBehind n) goes_on (pat_behind_follows n) (length ts) (pterm n inner)
-      (pat_behind n inner) (exact_pterm n inner below (suc (length ts))) (λ x. exact_pat_behind n inner below x (suc (length ts))) ts (omega arith))
+    (pat_behind n inner) (exact_pterm n inner below (suc (length ts))) (λ x. exact_pat_behind n inner below x (suc (length ts))) ts (omega arith))

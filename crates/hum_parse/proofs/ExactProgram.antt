@@ -40,6 +40,7 @@ no_calls f m ts h = along (Pure f) (G.IsCalls 0 f) goes_term ts (Ok (f, ts)) (re
   where
     to : (u : Kinds) (b : Expr) → Pure f u b → G.IsCalls 0 f u b
     to u b y = subst (λ z. G.IsCalls 0 f u z) y.same (subst (λ z. G.IsCalls 0 f z f) (sym y.none) G.calls_done)
+
     from : (u : Kinds) (b : Expr) → G.IsCalls 0 f u b → Pure f u b
     from u b G.calls_done = record { none = refl; same = refl }
 
@@ -47,16 +48,16 @@ pub all_levels : (n : ℕ) → Levels n (inner_at n)
 unfolding inner_at
 all_levels zero = no_calls
 all_levels (suc n) =
-  let below : Levels n (inner_at n) = all_levels n in
-  record {
-    term = exact_term n (inner_at n) below;
-    expr = exact_expr n (inner_at n) below;
-    calls = calls_at n (inner_at n) below;
-    pat = exact_pat n (inner_at n) below;
-    pat_behind = exact_pat_behind n (inner_at n) below;
-    arms = arms_at n below;
-    block = exact_stmts n (inner_at n) below;
-  }
+    let below : Levels n (inner_at n) = all_levels n in
+    record {
+      term = exact_term n (inner_at n) below;
+      expr = exact_expr n (inner_at n) below;
+      calls = calls_at n (inner_at n) below;
+      pat = exact_pat n (inner_at n) below;
+      pat_behind = exact_pat_behind n (inner_at n) below;
+      arms = arms_at n below;
+      block = exact_stmts n (inner_at n) below;
+    }
 
 -- ---- a program
 
@@ -77,7 +78,8 @@ ProgramTail n found = Then (IsStmt n) (λ x. Behind (found ++ x ∷ []) (IsStmts
 
 program_to : (n : ℕ) (found : List Stmt) (u : Kinds) (b : List Stmt) → ProgramTail n found u b → Behind found (IsStmts n) u b
 program_to n found u b y = record {
-  more = y.first ∷ y.is_right.more; is = sym (append_assoc found (y.first ∷ []) y.is_right.more) ∙ y.is_right.is;
+  more = y.first ∷ y.is_right.more;
+  is = sym (append_assoc found (y.first ∷ []) y.is_right.more) ∙ y.is_right.is;
   spelled = subst (λ z. IsStmts n z (y.first ∷ y.is_right.more)) (sym y.split) (G.stmts_more y.is_left y.is_right.spelled);
 }
 
@@ -87,13 +89,21 @@ program_parts n found u b y = parted u y.more b y.spelled y.is
     parted : (u : Kinds) (xs b : List Stmt) → IsStmts n u xs → found ++ xs ≡ b → ProgramTail n found u b ⊎ (u ≡ [])
     parted u xs b G.stmts_none e = inr refl
     parted u xs b (G.stmts_more {us = us} {vs = vs} {x = x} {xs = ys} y ys') e = inl (record {
-      left = us; right = vs; split = refl; first = x; is_left = y; is_right = record { more = ys; is = append_assoc found (x ∷ []) ys ∙ e; spelled = ys' } })
+      left = us;
+      right = vs;
+      split = refl;
+      first = x;
+      is_left = y;
+      is_right = record { more = ys; is = append_assoc found (x ∷ []) ys ∙ e; spelled = ys' };
+    })
 
 -- more tokens stand there, so the empty list is no spelling of them
 goes_on_with : {A : Type 0} (Q T : Language A) (t : TokenKind) (ts : Kinds) (o : Outcome A) → ((u : Kinds) (b : A) → Q u b → T u b) → ((u : Kinds) (b : A) → T u b → Q u b ⊎ (u ≡ []))
     → Answers Q all_on (t ∷ ts) o → Answers T all_on (t ∷ ts) o
 goes_on_with Q T t ts (Ok p) to from w = record {
-  front = w.front; split = w.split; spelled = to w.front p.0 w.spelled;
+  front = w.front;
+  split = w.split;
+  spelled = to w.front p.0 w.spelled;
   unique = λ more u v b same e y f. one more u v b same e (from u b y) f;
 }
   where
@@ -101,7 +111,12 @@ goes_on_with Q T t ts (Ok p) to from w = record {
     one more u v b same e (inl q) f = w.unique more u v b same e q f
     one more u v b same e (inr x) f = absurd (nothing_on t ts (w.front ++ more) v (subst (λ z. SameHead z (w.front ++ more)) (sym w.split) (same_behind w.front p.1 more same)) (e ∙ ap (λ z. z ++ v) x) f)
 goes_on_with Q T t ts (Err rest) to from w = record {
-  front = w.front; split = w.split; tail = w.tail; tree = w.tree; begins = to (w.front ++ w.tail) w.tree w.begins;
+  front = w.front;
+  split = w.split;
+  tail = w.tail;
+  carried = w.carried;
+  tree = w.tree;
+  begins = to (w.front ++ w.tail) w.tree w.begins;
   dead = λ more u v b same e y f. one more u v b same e (from u b y) f;
 }
   where
@@ -120,17 +135,20 @@ stmts_avoid n u v xs (G.stmts_more {us = us} {vs = vs} {x = x} y ys) f = one (us
 
 at_last : (n : ℕ) (found : List Stmt) → Found (Behind found (IsStmts n)) all_on [] found []
 at_last n found = record {
-  front = []; split = refl; spelled = record { more = []; is = append-nil found; spelled = G.stmts_none };
+  front = [];
+  split = refl;
+  spelled = record { more = []; is = append-nil found; spelled = G.stmts_none };
   unique = λ more u v b same e y f. last more u v b same e y;
 }
   where
     nil : (u v : Kinds) → [] ≡ u ++ v → u ≡ []
     nil [] v e = refl
     nil (t ∷ u) v e = cc
+
     last : (more u v : Kinds) (b : List Stmt) → SameHead [] more → more ≡ u ++ v → Behind found (IsStmts n) u b → (u ≡ []) × (found ≡ b)
     last (t ∷ more) u v b same e y = absurd same
     last [] u v b same e y = let empty : u ≡ [] = nil u v e in
-      (empty, sym (append-nil found) ∙ ap (λ z. found ++ z) (sym (none_empty n u y.more y.spelled empty)) ∙ y.is)
+        (empty, sym (append-nil found) ∙ ap (λ z. found ++ z) (sym (none_empty n u y.more y.spelled empty)) ∙ y.is)
 
 exact_program_from : (n : ℕ) (turns : ℕ) (found : List Stmt) → Exact (suc turns) (Behind found (IsStmts (suc n))) all_on (program_from (suc n) turns found)
 unfolding program_from
@@ -138,9 +156,9 @@ exact_program_from n turns found [] h = at_last (suc n) found
 exact_program_from n zero found (t ∷ ts) h = absurd (omega arith)
 exact_program_from n (suc turns) found (t ∷ ts) h =
     goes_on_with (ProgramTail (suc n) found) (Behind found (IsStmts (suc n))) t ts (program_from (suc n) (suc turns) found (t ∷ ts)) (program_to (suc n) found) (program_parts (suc n) found)
-      (exact_some (IsStmt (suc n)) goes_on (λ x. Behind (found ++ x ∷ []) (IsStmts (suc n))) all_on (λ x y v b z f. stmts_avoid (suc n) y v z.more z.spelled f) (λ x y. some_stmt (suc n) x y) turns
-        (stmt (suc n) (inner_at (suc n))) (λ x. program_from (suc n) turns (found ++ x ∷ [])) (exact_stmt n (inner_at (suc n)) (all_levels (suc n)) (suc (suc turns)))
-        (λ x. exact_program_from n turns (found ++ x ∷ [])) (t ∷ ts) h)
+    (exact_some (IsStmt (suc n)) goes_on (λ x. Behind (found ++ x ∷ []) (IsStmts (suc n))) all_on (λ x y v b z f. stmts_avoid (suc n) y v z.more z.spelled f) (λ x y. some_stmt (suc n) x y) turns
+    (stmt (suc n) (inner_at (suc n))) (λ x. program_from (suc n) turns (found ++ x ∷ [])) (exact_stmt n (inner_at (suc n)) (all_levels (suc n)) (suc (suc turns)))
+    (λ x. exact_program_from n turns (found ++ x ∷ [])) (t ∷ ts) h)
 
 -- What the parser answers of a program is exact.
 pub exact_program : (n : ℕ) (ts : Kinds) → Answers (Behind [] (IsStmts (suc n))) all_on ts (program (suc n) ts)

@@ -23,7 +23,7 @@ use Rattle.hum_parse.proofs.ExactCalls.{exact_calls}
 use Rattle.hum_parse.proofs.ExactIfs.{exact_if}
 
 term_ends : (n : ℕ) → Ends (IsTerm n)
-term_ends n = record { tail = k.Undefined ∷ []; tree = e.Undef; ends = G.chain G.undef G.calls_done }
+term_ends n = record { tail = k.Undefined ∷ []; carried = refl; tree = e.Undef; ends = G.chain G.undef G.calls_done }
 
 begins_term : TokenKind → Bool
 begins_term t = begins_expr t
@@ -46,8 +46,8 @@ ParenTail n = Then (IsExpr n) (λ a. Then (Word mark.ParenRight) (λ _. IsCalls 
 
 paren_to : (n : ℕ) (u : Kinds) (b : Expr) → ParenTail n u b → TermBy (suc n) k.ParenLeft u b
 paren_to n u b y =
-  let all : u ≡ y.left ++ k.ParenRight ∷ y.is_right.right = y.split ∙ ap (λ z. y.left ++ z) (word_is mark.ParenRight (IsCalls (suc (suc n)) y.first) y.right b y.is_right) in
-  subst (λ z. TermBy (suc n) k.ParenLeft z b) (sym all) (TermBy.by_paren y.is_left y.is_right.is_right)
+    let all : u ≡ y.left ++ k.ParenRight ∷ y.is_right.right = y.split ∙ ap (λ z. y.left ++ z) (word_is mark.ParenRight (IsCalls (suc (suc n)) y.first) y.right b y.is_right) in
+    subst (λ z. TermBy (suc n) k.ParenLeft z b) (sym all) (TermBy.by_paren y.is_left y.is_right.is_right)
 
 paren_from : (n : ℕ) (u : Kinds) (b : Expr) → TermBy (suc n) k.ParenLeft u b → ParenTail n u b ⊎ Then (Word mark.ParenRight) (λ _. IsCalls (suc (suc n)) e.Nil) u b
 paren_from n u b (TermBy.by_empty {us = us} y) = inr (worded mark.ParenRight (IsCalls (suc (suc n)) e.Nil) us b y)
@@ -60,15 +60,16 @@ exact_paren : (n : ℕ) (inner : Inner) → Below n inner → (m : ℕ) → Exac
 unfolding paren_inside
 exact_paren n inner below m =
     exact_then (IsExpr n) goes_on (λ a. Then (Word mark.ParenRight) (λ _. IsCalls (suc (suc n)) a)) goes_term
-      (λ a y v b t g. word_follows goes_on mark.ParenRight refl (IsCalls (suc (suc n)) a) y v b t) m inner.expr
-      (λ a ts. and_then (expect mark.ParenRight ts) (λ _. calls (suc n) inner a)) (below.expr (suc m))
-      (λ a. exact_word mark.ParenRight (IsCalls (suc (suc n)) a) goes_term m (calls (suc n) inner a) (exact_calls (suc n) inner below a m))
+    (λ a y v b t g. word_follows goes_on mark.ParenRight refl (IsCalls (suc (suc n)) a) y v b t) m inner.expr
+    (λ a ts. and_then (expect mark.ParenRight ts) (λ _. calls (suc n) inner a)) (below.expr (suc m))
+    (λ a. exact_word mark.ParenRight (IsCalls (suc (suc n)) a) goes_term m (calls (suc n) inner a) (exact_calls (suc n) inner below a m))
 
 shut_same : Same (Then (Word mark.ParenRight) (λ _. IsCalls 1 e.Nil)) (TermBy 0 k.ParenLeft)
 shut_same = record { to = to; from = from }
   where
     to : (u : Kinds) (b : Expr) → Then (Word mark.ParenRight) (λ _. IsCalls 1 e.Nil) u b → TermBy 0 k.ParenLeft u b
     to u b y = subst (λ z. TermBy 0 k.ParenLeft z b) (sym (word_is mark.ParenRight (IsCalls 1 e.Nil) u b y)) (TermBy.by_empty y.is_right)
+
     from : (u : Kinds) (b : Expr) → TermBy 0 k.ParenLeft u b → Then (Word mark.ParenRight) (λ _. IsCalls 1 e.Nil) u b
     from u b (TermBy.by_empty {us = us} y) = worded mark.ParenRight (IsCalls 1 e.Nil) us b y
 
@@ -82,13 +83,17 @@ block_same n = record { to = to; from = from }
   where
     to : (u : Kinds) (b : Expr) → BlockTail n u b → TermBy (suc n) k.SquareLeft u b
     to u b y =
-      let ends : (y.is_left.right ≡ k.SquareRight ∷ []) × (y.is_left.first ≡ y.first) = close_is mark.SquareRight y.is_left.first y.is_left.right y.first y.is_left.is_right in
-      let all : u ≡ y.is_left.left ++ k.SquareRight ∷ y.right =
-            y.split ∙ ap (λ z. z ++ y.right) (y.is_left.split ∙ ap (λ z. y.is_left.left ++ z) ends.0) ∙ append_assoc y.is_left.left (k.SquareRight ∷ []) y.right in
-      subst (λ z. TermBy (suc n) k.SquareLeft z b) (sym all) (TermBy.by_block y.is_left.is_left (subst (λ z. IsCalls (suc (suc n)) (e.Block z) y.right b) (sym ends.1) y.is_right))
+        let ends : (y.is_left.right ≡ k.SquareRight ∷ []) × (y.is_left.first ≡ y.first) = close_is mark.SquareRight y.is_left.first y.is_left.right y.first y.is_left.is_right in
+        let all : u ≡ y.is_left.left ++ k.SquareRight ∷ y.right =
+        y.split ∙ ap (λ z. z ++ y.right) (y.is_left.split ∙ ap (λ z. y.is_left.left ++ z) ends.0) ∙ append_assoc y.is_left.left (k.SquareRight ∷ []) y.right in
+        subst (λ z. TermBy (suc n) k.SquareLeft z b) (sym all) (TermBy.by_block y.is_left.is_left (subst (λ z. IsCalls (suc (suc n)) (e.Block z) y.right b) (sym ends.1) y.is_right))
+
     from : (u : Kinds) (b : Expr) → TermBy (suc n) k.SquareLeft u b → BlockTail n u b
     from u b (TermBy.by_block {us = us} {vs = vs} {xs = xs} x y) = record {
-      left = us ++ k.SquareRight ∷ []; right = vs; split = sym (append_assoc us (k.SquareRight ∷ []) vs); first = xs;
+      left = us ++ k.SquareRight ∷ [];
+      right = vs;
+      split = sym (append_assoc us (k.SquareRight ∷ []) vs);
+      first = xs;
       is_left = record { left = us; right = k.SquareRight ∷ []; split = refl; first = xs; is_left = x; is_right = closes mark.SquareRight xs };
       is_right = y;
     }
@@ -97,7 +102,7 @@ exact_block_atom : (n : ℕ) (inner : Inner) → Below n inner → (m : ℕ) →
 unfolding block_atom
 exact_block_atom n inner below m =
     exact_then (BlockEnd n) (λ _. false) (λ xs. IsCalls (suc (suc n)) (e.Block xs)) goes_term (λ _ y v b t f. no_follow (y ++ v)) m inner.block (λ xs. calls (suc n) inner (e.Block xs))
-      (below.block (λ _. false) (suc m)) (λ xs. exact_calls (suc n) inner below (e.Block xs) m)
+    (below.block (λ _. false) (suc m)) (λ xs. exact_calls (suc n) inner below (e.Block xs) m)
 
 -- ---- NEW
 
@@ -105,8 +110,8 @@ exact_new : (n : ℕ) (inner : Inner) → Below n inner → (ts : Kinds) → Ans
 unfolding new_term
 exact_new n inner below ts =
     along (Then (IsTerm n) (λ a. Pure (e.New a))) (TermBy (suc n) (k.Keyword w.KwNew)) goes_term ts (new_term (suc n) inner ts)
-      (record { to = unpured (IsTerm n) (λ a. e.New a) (TermBy (suc n) (k.Keyword w.KwNew)) (λ u a x. TermBy.by_new x); from = from })
-      (exact_made (IsTerm n) goes_term (λ a. e.New a) (length ts) inner.term (below.term (suc (length ts))) ts (omega arith))
+    (record { to = unpured (IsTerm n) (λ a. e.New a) (TermBy (suc n) (k.Keyword w.KwNew)) (λ u a x. TermBy.by_new x); from = from })
+    (exact_made (IsTerm n) goes_term (λ a. e.New a) (length ts) inner.term (below.term (suc (length ts))) ts (omega arith))
   where
     from : (u : Kinds) (b : Expr) → TermBy (suc n) (k.Keyword w.KwNew) u b → Then (IsTerm n) (λ a. Pure (e.New a)) u b
     from u b (TermBy.by_new {a = a} x) = pured (IsTerm n) (λ z. e.New z) u a x
@@ -121,30 +126,35 @@ case_same n = record { to = to; from = from }
   where
     to : (u : Kinds) (b : Expr) → CaseTail n u b → TermBy (suc n) (k.Keyword w.KwCase) u b
     to u b y =
-      let z = y.is_right.is_right in
-      let arms = z.is_left in
-      let ends : (arms.right ≡ k.Keyword w.KwEnd ∷ []) × (arms.first ≡ z.first) = close_is mark.End arms.first arms.right z.first arms.is_right in
-      let inner : y.is_right.right ≡ arms.left ++ k.Keyword w.KwEnd ∷ [] = pure_split (e.Case y.first z.first) z.left y.is_right.right z.right b z.split z.is_right ∙ arms.split ∙ ap (λ s. arms.left ++ s) ends.0 in
-      let all : u ≡ y.left ++ k.Keyword w.KwOf ∷ arms.left ++ k.Keyword w.KwEnd ∷ [] =
-            y.split ∙ ap (λ s. y.left ++ s) (word_is mark.Of (Then (ArmsEnd n) (λ xs. Pure (e.Case y.first xs))) y.right b y.is_right ∙ ap (λ s. k.Keyword w.KwOf ∷ s) inner)
-            ∙ sym (append_assoc y.left (k.Keyword w.KwOf ∷ arms.left) (k.Keyword w.KwEnd ∷ [])) in
-      subst (λ s. TermBy (suc n) (k.Keyword w.KwCase) s b) (sym all)
+        let z = y.is_right.is_right in
+        let arms = z.is_left in
+        let ends : (arms.right ≡ k.Keyword w.KwEnd ∷ []) × (arms.first ≡ z.first) = close_is mark.End arms.first arms.right z.first arms.is_right in
+        let inner : y.is_right.right ≡ arms.left ++ k.Keyword w.KwEnd ∷ [] = pure_split (e.Case y.first z.first) z.left y.is_right.right z.right b z.split z.is_right ∙ arms.split ∙ ap (λ s. arms.left ++ s) ends.0 in
+        let all : u ≡ y.left ++ k.Keyword w.KwOf ∷ arms.left ++ k.Keyword w.KwEnd ∷ [] =
+        y.split ∙ ap (λ s. y.left ++ s) (word_is mark.Of (Then (ArmsEnd n) (λ xs. Pure (e.Case y.first xs))) y.right b y.is_right ∙ ap (λ s. k.Keyword w.KwOf ∷ s) inner)
+        ∙ sym (append_assoc y.left (k.Keyword w.KwOf ∷ arms.left) (k.Keyword w.KwEnd ∷ [])) in
+        subst (λ s. TermBy (suc n) (k.Keyword w.KwCase) s b) (sym all)
         (subst (λ s. TermBy (suc n) (k.Keyword w.KwCase) (y.left ++ k.Keyword w.KwOf ∷ arms.left ++ k.Keyword w.KwEnd ∷ []) s) (ap (λ s. e.Case y.first s) ends.1 ∙ z.is_right.same) (TermBy.by_case y.is_left arms.is_left))
+
     from : (u : Kinds) (b : Expr) → TermBy (suc n) (k.Keyword w.KwCase) u b → CaseTail n u b
     from u b (TermBy.by_case {us = us} {vs = vs} {a = a} {xs = xs} x y) = record {
-      left = us; right = k.Keyword w.KwOf ∷ (vs ++ k.Keyword w.KwEnd ∷ []); split = append_assoc us (k.Keyword w.KwOf ∷ vs) (k.Keyword w.KwEnd ∷ []); first = a; is_left = x;
+      left = us;
+      right = k.Keyword w.KwOf ∷ (vs ++ k.Keyword w.KwEnd ∷ []);
+      split = append_assoc us (k.Keyword w.KwOf ∷ vs) (k.Keyword w.KwEnd ∷ []);
+      first = a;
+      is_left = x;
       is_right = worded mark.Of (Then (ArmsEnd n) (λ zs. Pure (e.Case a zs))) (vs ++ k.Keyword w.KwEnd ∷ []) (e.Case a xs)
-        (pured (ArmsEnd n) (λ zs. e.Case a zs) (vs ++ k.Keyword w.KwEnd ∷ []) xs (record { left = vs; right = k.Keyword w.KwEnd ∷ []; split = refl; first = xs; is_left = y; is_right = closes mark.End xs }));
+          (pured (ArmsEnd n) (λ zs. e.Case a zs) (vs ++ k.Keyword w.KwEnd ∷ []) xs (record { left = vs; right = k.Keyword w.KwEnd ∷ []; split = refl; first = xs; is_left = y; is_right = closes mark.End xs }));
     }
 
 exact_case : (n : ℕ) (inner : Inner) → Below (suc n) inner → (m : ℕ) → Exact (suc m) (CaseTail (suc n)) goes_term (case_term (suc (suc n)) inner)
 unfolding case_term
 exact_case n inner below m =
     exact_then (IsExpr (suc n)) goes_on (λ a. Then (Word mark.Of) (λ _. Then (ArmsEnd (suc n)) (λ xs. Pure (e.Case a xs)))) goes_term
-      (λ a y v b t g. word_follows goes_on mark.Of refl (Then (ArmsEnd (suc n)) (λ xs. Pure (e.Case a xs))) y v b t) m inner.expr
-      (λ a ts. and_then (expect mark.Of ts) (λ _ us. and_then (inner.arms us) (λ xs. pure (e.Case a xs)))) (below.expr (suc m))
-      (λ a. exact_word mark.Of (Then (ArmsEnd (suc n)) (λ xs. Pure (e.Case a xs))) goes_term m (λ us. and_then (inner.arms us) (λ xs. pure (e.Case a xs)))
-        (exact_made (ArmsEnd (suc n)) goes_term (λ xs. e.Case a xs) m inner.arms (below.arms goes_term (suc m))))
+    (λ a y v b t g. word_follows goes_on mark.Of refl (Then (ArmsEnd (suc n)) (λ xs. Pure (e.Case a xs))) y v b t) m inner.expr
+    (λ a ts. and_then (expect mark.Of ts) (λ _ us. and_then (inner.arms us) (λ xs. pure (e.Case a xs)))) (below.expr (suc m))
+    (λ a. exact_word mark.Of (Then (ArmsEnd (suc n)) (λ xs. Pure (e.Case a xs))) goes_term m (λ us. and_then (inner.arms us) (λ xs. pure (e.Case a xs)))
+    (exact_made (ArmsEnd (suc n)) goes_term (λ xs. e.Case a xs) m inner.arms (below.arms goes_term (suc m))))
 
 -- ---- whole
 
@@ -156,6 +166,7 @@ one_arm u b (TermBy.by_case x y) = no_arms y
   where
     no_arm : {us : Kinds} {x : Arm} → IsArm 0 us x → ⊥
     no_arm h = elim h [ ]
+
     no_arms : {us : Kinds} {xs : List Arm} → IsArms 0 us xs → ⊥
     no_arms (G.arms_last h) = no_arm h
     no_arms (G.arms_more h hs) = no_arm h
@@ -227,20 +238,20 @@ term_at n inner below (k.Name t) ts = by_atom n ts inner below (k.Name t) (e.Var
 term_at n inner below (k.Keyword w.KwSelf) ts = by_atom n ts inner below (k.Keyword w.KwSelf) e.Myself (myself_same n)
 term_at zero inner below k.ParenLeft ts =
     by_token 0 ts k.ParenLeft (either mark.ParenRight (calls 0 inner e.Nil) (λ us. Err us) ts)
-      (along (Then (Word mark.ParenRight) (λ _. IsCalls 1 e.Nil)) (TermBy 0 k.ParenLeft) goes_term ts (either mark.ParenRight (calls 0 inner e.Nil) (λ us. Err us) ts) shut_same
-        (exact_only mark.ParenRight (IsCalls 1 e.Nil) goes_term (length ts) (calls 0 inner e.Nil) (exact_calls 0 inner below e.Nil (length ts)) ts (omega arith)))
+    (along (Then (Word mark.ParenRight) (λ _. IsCalls 1 e.Nil)) (TermBy 0 k.ParenLeft) goes_term ts (either mark.ParenRight (calls 0 inner e.Nil) (λ us. Err us) ts) shut_same
+    (exact_only mark.ParenRight (IsCalls 1 e.Nil) goes_term (length ts) (calls 0 inner e.Nil) (exact_calls 0 inner below e.Nil (length ts)) ts (omega arith)))
 term_at (suc n) inner below k.ParenLeft ts =
     rw not_last (by_token (suc n) ts k.ParenLeft (either mark.ParenRight (calls (suc n) inner e.Nil) (paren_inside (suc n) inner) ts)
-      (exact_branch mark.ParenRight (IsCalls (suc (suc n)) e.Nil) (ParenTail n) (TermBy (suc n) k.ParenLeft) goes_term (paren_to n) (λ u b y. TermBy.by_empty y) (paren_from n)
-        (λ b y off. paren_begins n [] b y) (λ u b y c. apart_right u (paren_begins n u b y) c) (suc (length ts)) (calls (suc n) inner e.Nil) (paren_inside (suc n) inner)
-        (exact_calls (suc n) inner below e.Nil (length ts)) (exact_paren n inner below (suc (length ts))) ts (omega arith)))
+    (exact_branch mark.ParenRight (IsCalls (suc (suc n)) e.Nil) (ParenTail n) (TermBy (suc n) k.ParenLeft) goes_term (paren_to n) (λ u b y. TermBy.by_empty y) (paren_from n)
+    (λ b y off. paren_begins n [] b y) (λ u b y c. apart_right u (paren_begins n u b y) c) (suc (length ts)) (calls (suc n) inner e.Nil) (paren_inside (suc n) inner)
+    (exact_calls (suc n) inner below e.Nil (length ts)) (exact_paren n inner below (suc (length ts))) ts (omega arith)))
 term_at zero inner below k.SquareLeft ts = not_here 0 ts k.SquareLeft (λ us b h. no_block us b h)
   where
     no_block : (us : Kinds) (b : Expr) → TermBy 0 k.SquareLeft us b → ⊥
     no_block us b h = elim h [ ]
 term_at (suc n) inner below k.SquareLeft ts =
     rw not_last (by_token (suc n) ts k.SquareLeft (block_atom (suc n) inner ts)
-      (along (BlockTail n) (TermBy (suc n) k.SquareLeft) goes_term ts (block_atom (suc n) inner ts) (block_same n) (exact_block_atom n inner below (length ts) ts (omega arith))))
+    (along (BlockTail n) (TermBy (suc n) k.SquareLeft) goes_term ts (block_atom (suc n) inner ts) (block_same n) (exact_block_atom n inner below (length ts) ts (omega arith))))
 term_at zero inner below (k.Keyword w.KwNew) ts = not_here 0 ts (k.Keyword w.KwNew) (λ us b h. no_new us b h)
   where
     no_new : (us : Kinds) (b : Expr) → TermBy 0 (k.Keyword w.KwNew) us b → ⊥
@@ -253,7 +264,7 @@ term_at zero inner below (k.Keyword w.KwCase) ts = not_here 0 ts (k.Keyword w.Kw
 term_at (suc zero) inner below (k.Keyword w.KwCase) ts = not_here 1 ts (k.Keyword w.KwCase) one_arm
 term_at (suc (suc n)) inner below (k.Keyword w.KwCase) ts =
     rw two_left (by_token (suc (suc n)) ts (k.Keyword w.KwCase) (case_term (suc (suc n)) inner ts)
-      (along (CaseTail (suc n)) (TermBy (suc (suc n)) (k.Keyword w.KwCase)) goes_term ts (case_term (suc (suc n)) inner ts) (case_same (suc n)) (exact_case n inner below (length ts) ts (omega arith))))
+    (along (CaseTail (suc n)) (TermBy (suc (suc n)) (k.Keyword w.KwCase)) goes_term ts (case_term (suc (suc n)) inner ts) (case_same (suc n)) (exact_case n inner below (length ts) ts (omega arith))))
 term_at zero inner below (k.Keyword w.KwIf) ts = not_here 0 ts (k.Keyword w.KwIf) (λ us b h. no_if us b h)
   where
     no_if : (us : Kinds) (b : Expr) → TermBy 0 (k.Keyword w.KwIf) us b → ⊥

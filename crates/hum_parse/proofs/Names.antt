@@ -1,5 +1,6 @@
 -- A name that comes next.
 use Rattle.std.proofs.Common.{◌≡◌, ℕ, Bool, true, false, List, [], ◌∷◌, ◌++◌, Err, refl, sym, ap, ◌∙◌}
+use Rattle.std.specs.Prelude.{codes}
 use Rattle.hum_syntax.specs.declared.TokenKind.{TokenKind}
 use Rattle.hum_syntax.specs.declared.TokenKind.TheVariants as k
 use Rattle.hum_syntax.specs.Spells.{Kinds}
@@ -16,7 +17,7 @@ is_name (k.Name f) = true
 is_name _ = false
 
 name_ends : Ends NameIs
-name_ends = record { tail = k.Name [] ∷ []; tree = []; ends = refl }
+name_ends = record { tail = k.Name (codes "a") ∷ []; carried = refl; tree = codes "a"; ends = refl }
 
 not_name : (g : TokenKind → Bool) (t : TokenKind) (ts : Kinds) → is_name t ≡ false → Answers NameIs g (t ∷ ts) (Err (t ∷ ts))
 not_name g t ts off = no_way NameIs g t ts name_ends (λ b y. cc)
@@ -29,11 +30,13 @@ name_of _ = []
 pub exact_name : (g : TokenKind → Bool) (ts : Kinds) → Answers NameIs g ts (expect_name ts)
 exact_name g [] = at_end NameIs g name_ends (λ b y. cc)
 exact_name g (k.Name f ∷ ts) = record {
-  front = k.Name f ∷ []; split = refl; spelled = refl;
+  front = k.Name f ∷ [];
+  split = refl;
+  spelled = refl;
   unique = λ more u v b same e y off.
-    let all : k.Name f ∷ more ≡ k.Name b ∷ v = e ∙ ap (λ z. z ++ v) y in
-    let heads : k.Name f ≡ k.Name b = cc in
-    let names : f ≡ b = ap name_of heads in
-    (y ∙ ap (λ z. z ∷ []) (sym heads), names);
+      let all : k.Name f ∷ more ≡ k.Name b ∷ v = e ∙ ap (λ z. z ++ v) y in
+      let heads : k.Name f ≡ k.Name b = cc in
+      let names : f ≡ b = ap name_of heads in
+      (y ∙ ap (λ z. z ∷ []) (sym heads), names);
 }
 exact_name g (t ∷ ts) = not_name g t ts refl

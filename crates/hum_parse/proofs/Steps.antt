@@ -3,11 +3,13 @@ use Rattle.std.proofs.Common.{◌≡◌, ℕ, suc, ◌<◌, ◌≤◌, ◌+◌, 
 use Rattle.hum_syntax.specs.declared.TokenKind.{TokenKind}
 use Rattle.hum_syntax.specs.declared.TokenKind.TheVariants as k
 use Rattle.hum_syntax.specs.declared.Keyword.TheVariants as w
+use Rattle.std.proofs.lemmas.Bool.{and_from}
+use Rattle.hum_syntax.specs.Kinds.{is_carried}
 use Rattle.hum_syntax.specs.Spells.{Kinds}
 use Rattle.hum_parse.specs.declared.tokens.Mark.{Mark}
 use Rattle.hum_parse.specs.declared.tokens.Mark.TheVariants as mark
 use Rattle.hum_parse.specs.Input.{Outcome, Parser, pure, expect, either, is, stands, sees, next, and_then}
-use Rattle.hum_parse.proofs.Exact.{Language, SameHead, Avoids, Found, Stopped, Answers, Exact, Ends, Then, same_behind, exact_then}
+use Rattle.hum_parse.proofs.Exact.{Carried, Language, SameHead, Avoids, Found, Stopped, Answers, Exact, Ends, Then, same_behind, exact_then}
 
 pub is_stands : (x : Mark) (t : TokenKind) → is x t ≡ true → t ≡ stands x
 is_stands mark.To (k.Keyword w.KwTo) e = refl
@@ -52,11 +54,18 @@ pub record Same {A : Type 0} (T U : Language A) : Type 0 where
 
 pub along : {A : Type 0} (T U : Language A) (g : TokenKind → Bool) (ts : Kinds) (o : Outcome A) → Same T U → Answers T g ts o → Answers U g ts o
 along T U g ts (Ok p) s w = record {
-  front = w.front; split = w.split; spelled = s.to w.front p.0 w.spelled;
+  front = w.front;
+  split = w.split;
+  spelled = s.to w.front p.0 w.spelled;
   unique = λ more u v b same e t f. w.unique more u v b same e (s.from u b t) f;
 }
 along T U g ts (Err rest) s w = record {
-  front = w.front; split = w.split; tail = w.tail; tree = w.tree; begins = s.to (w.front ++ w.tail) w.tree w.begins;
+  front = w.front;
+  split = w.split;
+  tail = w.tail;
+  carried = w.carried;
+  tree = w.tree;
+  begins = s.to (w.front ++ w.tail) w.tree w.begins;
   dead = λ more u v b same e t f. w.dead more u v b same e (s.from u b t) f;
 }
 
@@ -66,33 +75,45 @@ along T U g ts (Err rest) s w = record {
 pub took : {A : Type 0} (T : Language A) (g : TokenKind → Bool) (t : TokenKind) (ts : Kinds) (o : Outcome A) → ((b : A) → T [] b → g t ≡ false → ⊥)
     → Answers (λ us. T (t ∷ us)) g ts o → Answers T g (t ∷ ts) o
 took T g t ts (Ok p) none w = record {
-  front = t ∷ w.front; split = ap (λ z. t ∷ z) w.split; spelled = w.spelled;
+  front = t ∷ w.front;
+  split = ap (λ z. t ∷ z) w.split;
+  spelled = w.spelled;
   unique = λ more u v b same e. first u v more b same e;
 }
   where
     first : (u v more : Kinds) (b : _) → SameHead p.1 more → (t ∷ w.front) ++ more ≡ u ++ v → T u b → Avoids g v → (u ≡ t ∷ w.front) × (p.0 ≡ b)
     first [] v more b same e x f = absurd (none b x (subst (Avoids g) (sym e) f))
     first (k ∷ u) v more b same e x f =
-      let heads : t ≡ k = cc in
-      let tails : w.front ++ more ≡ u ++ v = cc in
-      let rests : (u ≡ w.front) × (p.0 ≡ b) = w.unique more u v b same tails (subst (λ z. T (z ∷ u) b) (sym heads) x) f in
-      (let both : k ∷ u ≡ t ∷ w.front = cc in both, rests.1)
+        let heads : t ≡ k = cc in
+        let tails : w.front ++ more ≡ u ++ v = cc in
+        let rests : (u ≡ w.front) × (p.0 ≡ b) = w.unique more u v b same tails (subst (λ z. T (z ∷ u) b) (sym heads) x) f in
+        (let both : k ∷ u ≡ t ∷ w.front = cc in both, rests.1)
 took T g t ts (Err rest) none w = record {
-  front = t ∷ w.front; split = ap (λ z. t ∷ z) w.split; tail = w.tail; tree = w.tree; begins = w.begins;
+  front = t ∷ w.front;
+  split = ap (λ z. t ∷ z) w.split;
+  tail = w.tail;
+  carried = w.carried;
+  tree = w.tree;
+  begins = w.begins;
   dead = λ more u v b same e. first u v more b same e;
 }
   where
     first : (u v more : Kinds) (b : _) → SameHead rest more → (t ∷ w.front) ++ more ≡ u ++ v → T u b → Avoids g v → ⊥
     first [] v more b same e x f = none b x (subst (Avoids g) (sym e) f)
     first (k ∷ u) v more b same e x f =
-      let heads : t ≡ k = cc in
-      let tails : w.front ++ more ≡ u ++ v = cc in
-      w.dead more u v b same tails (subst (λ z. T (z ∷ u) b) (sym heads) x) f
+        let heads : t ≡ k = cc in
+        let tails : w.front ++ more ≡ u ++ v = cc in
+        w.dead more u v b same tails (subst (λ z. T (z ∷ u) b) (sym heads) x) f
 
 -- Nothing is left, and no spelling is empty.
 pub at_end : {A : Type 0} (T : Language A) (g : TokenKind → Bool) → Ends T → ((b : A) → T [] b → ⊥) → Stopped T g [] []
 at_end T g x none = record {
-  front = []; split = refl; tail = x.tail; tree = x.tree; begins = x.ends;
+  front = [];
+  split = refl;
+  tail = x.tail;
+  carried = x.carried;
+  tree = x.tree;
+  begins = x.ends;
   dead = λ more u v b same e t f. nothing more u v b same e t;
 }
   where
@@ -104,7 +125,12 @@ at_end T g x none = record {
 pub no_way : {A : Type 0} (T : Language A) (g : TokenKind → Bool) (t : TokenKind) (ts : Kinds) → Ends T → ((b : A) → T [] b → ⊥)
     → ((u : Kinds) (b : A) → T (t ∷ u) b → ⊥) → Stopped T g (t ∷ ts) (t ∷ ts)
 no_way T g t ts x none other = record {
-  front = []; split = refl; tail = x.tail; tree = x.tree; begins = x.ends;
+  front = [];
+  split = refl;
+  tail = x.tail;
+  carried = x.carried;
+  tree = x.tree;
+  begins = x.ends;
   dead = λ more u v b same e y f. nothing more u v b same e y;
 }
   where
@@ -112,29 +138,43 @@ no_way T g t ts x none other = record {
     nothing [] u v b same e y = same
     nothing (k ∷ ks) [] v b same e y = none b y
     nothing (k ∷ ks) (j ∷ u) v b same e y =
-      let heads : t ≡ j = cc in
-      other u b (subst (λ z. T (z ∷ u) b) (sym heads) y)
+        let heads : t ≡ j = cc in
+        other u b (subst (λ z. T (z ∷ u) b) (sym heads) y)
 
 -- ---- single steps
 
 pub exact_pure : {A : Type 0} (a : A) (g : TokenKind → Bool) (ts : Kinds) → Found (Pure a) g ts a ts
 exact_pure a g ts = record {
-  front = []; split = refl; spelled = record { none = refl; same = refl };
+  front = [];
+  split = refl;
+  spelled = record { none = refl; same = refl };
   unique = λ more u v b same e t f. (t.none, t.same);
 }
+
+carried_word : (x : Mark) → is_carried (stands x) ≡ true
+carried_word mark.To = refl
+carried_word _ = refl
+
+pub carried_alone : (x : Mark) → Carried (stands x ∷ [])
+carried_alone x = and_from (is_carried (stands x)) true (carried_word x) refl
+
+word_ends : (x : Mark) → Ends (Word x)
+word_ends x = record { tail = stands x ∷ []; carried = carried_alone x; tree = tt; ends = refl }
 
 expect_at : (x : Mark) (g : TokenKind → Bool) (t : TokenKind) (ts : Kinds) (seen : Bool) → is x t ≡ seen
     → Answers (Word x) g (t ∷ ts) (cond seen (Ok (tt, ts)) (Err (t ∷ ts)))
 expect_at x g t ts true e = record {
-  front = t ∷ []; split = refl; spelled = ap (λ z. z ∷ []) (is_stands x t e);
+  front = t ∷ [];
+  split = refl;
+  spelled = ap (λ z. z ∷ []) (is_stands x t e);
   unique = λ more u v b same d y f. (y ∙ ap (λ z. z ∷ []) (sym (is_stands x t e)), refl);
 }
 expect_at x g t ts false e =
-    no_way (Word x) g t ts (record { tail = stands x ∷ []; tree = tt; ends = refl }) (λ b y. cc)
+    no_way (Word x) g t ts (word_ends x) (λ b y. cc)
     (λ u b y. let same : t ≡ stands x = cc in let no : true ≡ false = sym (stands_is x) ∙ ap (is x) (sym same) ∙ e in cc)
 
 pub exact_expect : (x : Mark) (g : TokenKind → Bool) (ts : Kinds) → Answers (Word x) g ts (expect x ts)
-exact_expect x g [] = at_end (Word x) g (record { tail = stands x ∷ []; tree = tt; ends = refl }) (λ b y. cc)
+exact_expect x g [] = at_end (Word x) g (word_ends x) (λ b y. cc)
 exact_expect x g (t ∷ ts) = expect_at x g t ts (is x t) refl
 
 -- ---- a choice by the first token
@@ -158,7 +198,9 @@ pub narrowed : {A : Type 0} (h : TokenKind → Bool) (Q T : Language A) (g : Tok
     → ((u : Kinds) (b : A) → Q u b → T u b) → ((u : Kinds) (b : A) → T u b → Q u b ⊎ Begins h u) → Avoids h ts
     → Answers Q g ts o → Answers T g ts o
 narrowed h Q T g ts (Ok p) to from a w = record {
-  front = w.front; split = w.split; spelled = to w.front p.0 w.spelled;
+  front = w.front;
+  split = w.split;
+  spelled = to w.front p.0 w.spelled;
   unique = λ more u v b same e t f. either_way more u v b same e (from u b t) f;
 }
   where
@@ -166,7 +208,12 @@ narrowed h Q T g ts (Ok p) to from a w = record {
     either_way more u v b same e (inl q) f = w.unique more u v b same e q f
     either_way more u v b same e (inr x) f = absurd (clash h ts (w.front ++ more) u v a (subst (λ z. SameHead z (w.front ++ more)) (sym w.split) (same_behind w.front p.1 more same)) e x)
 narrowed h Q T g ts (Err rest) to from a w = record {
-  front = w.front; split = w.split; tail = w.tail; tree = w.tree; begins = to (w.front ++ w.tail) w.tree w.begins;
+  front = w.front;
+  split = w.split;
+  tail = w.tail;
+  carried = w.carried;
+  tree = w.tree;
+  begins = to (w.front ++ w.tail) w.tree w.begins;
   dead = λ more u v b same e t f. either_way more u v b same e (from u b t) f;
 }
   where
@@ -189,18 +236,18 @@ module _ {A : Type 0} (x : Mark) (a : A) (S : Language A) (g : TokenKind → Boo
   or_behind : (t : TokenKind) (u : Kinds) (b : A) → Or x a S (t ∷ u) b → S u b
   or_behind t u b (inl y) = let no : t ∷ u ≡ [] = y.none in cc
   or_behind t u b (inr y) =
-    let all : t ∷ u ≡ stands x ∷ y.right = y.split ∙ ap (λ z. z ++ y.right) y.is_left in
-    let tails : y.right ≡ u = cc in
-    subst (λ z. S z b) tails y.is_right
+      let all : t ∷ u ≡ stands x ∷ y.right = y.split ∙ ap (λ z. z ++ y.right) y.is_left in
+      let tails : y.right ≡ u = cc in
+      subst (λ z. S z b) tails y.is_right
 
   or_at : (m : ℕ) (ps : Parser A) → Exact m S g ps → (t : TokenKind) (ts : Kinds) → length ts < m → (seen : Bool) → is x t ≡ seen
       → Answers (Or x a S) g (t ∷ ts) (cond seen (ps ts) (Ok (a, t ∷ ts)))
   or_at m ps xs t ts h true e =
-    let at : t ≡ stands x = is_stands x t e in
-    took (Or x a S) g t ts (ps ts) (λ b y off. let no : true ≡ false = sym goes ∙ ap g (sym at) ∙ off in cc)
+      let at : t ≡ stands x = is_stands x t e in
+      took (Or x a S) g t ts (ps ts) (λ b y off. let no : true ≡ false = sym goes ∙ ap g (sym at) ∙ off in cc)
       (along S (λ us. Or x a S (t ∷ us)) g ts (ps ts) (record { to = or_to t at; from = or_behind t }) (xs ts h))
   or_at m ps xs t ts h false e =
-    narrowed (is x) (Pure a) (Or x a S) g (t ∷ ts) (Ok (a, t ∷ ts)) (λ u b y. inl y) or_from e (exact_pure a g (t ∷ ts))
+      narrowed (is x) (Pure a) (Or x a S) g (t ∷ ts) (Ok (a, t ∷ ts)) (λ u b y. inl y) or_from e (exact_pure a g (t ∷ ts))
 
   pub exact_or : (m : ℕ) (ps : Parser A) → Exact m S g ps → Exact (suc m) (Or x a S) g (either x ps (pure a))
   exact_or m ps xs [] h = narrowed (is x) (Pure a) (Or x a S) g [] (Ok (a, [])) (λ u b y. inl y) or_from tt (exact_pure a g [])
@@ -252,7 +299,7 @@ module _ {A : Type 0} (x : Mark) (a : A) (Q T : Language A) (g : TokenKind → B
   else_at : (m : ℕ) (q : Parser A) → Exact (suc m) Q g q → (t : TokenKind) (ts : Kinds) → length (t ∷ ts) < suc m → (seen : Bool) → is x t ≡ seen
       → Answers T g (t ∷ ts) (cond seen (Ok (a, ts)) (q (t ∷ ts)))
   else_at m q xs t ts h true e =
-    took T g t ts (Ok (a, ts)) (λ b y off. else_some b (from [] b y))
+      took T g t ts (Ok (a, ts)) (λ b y off. else_some b (from [] b y))
       (along (Pure a) (λ us. T (t ∷ us)) g ts (Ok (a, ts)) (record { to = else_to t (is_stands x t e); from = λ u b y. else_behind t e u b (from (t ∷ u) b y) }) (exact_pure a g ts))
   else_at m q xs t ts h false e = narrowed (is x) Q T g (t ∷ ts) (q (t ∷ ts)) to else_from e (xs (t ∷ ts) h)
 
@@ -294,10 +341,10 @@ module _ {A : Type 0} (x : Mark) (P Q T : Language A) (g : TokenKind → Bool)
   branch_at : (m : ℕ) (ps q : Parser A) → Exact m P g ps → Exact (suc m) Q g q → (t : TokenKind) (ts : Kinds) → length (t ∷ ts) < suc m → (seen : Bool) → is x t ≡ seen
       → Answers T g (t ∷ ts) (cond seen (ps ts) (q (t ∷ ts)))
   branch_at m ps q xp xq t ts h true e =
-    took T g t ts (ps ts) (λ b y off. branch_some t (is_stands x t e) b (from [] b y) off)
+      took T g t ts (ps ts) (λ b y off. branch_some t (is_stands x t e) b (from [] b y) off)
       (along P (λ us. T (t ∷ us)) g ts (ps ts)
-        (record { to = λ u b y. subst (λ z. T (z ∷ u) b) (sym (is_stands x t e)) (to_word u b y); from = λ u b y. branch_behind t e u b (from (t ∷ u) b y) })
-        (xp ts (let less : length ts < m = omega arith in less)))
+      (record { to = λ u b y. subst (λ z. T (z ∷ u) b) (sym (is_stands x t e)) (to_word u b y); from = λ u b y. branch_behind t e u b (from (t ∷ u) b y) })
+      (xp ts (let less : length ts < m = omega arith in less)))
   branch_at m ps q xp xq t ts h false e = narrowed (is x) Q T g (t ∷ ts) (q (t ∷ ts)) to branch_from e (xq (t ∷ ts) h)
 
   pub exact_branch : (m : ℕ) (ps q : Parser A) → Exact m P g ps → Exact (suc m) Q g q → Exact (suc m) T g (either x ps q)

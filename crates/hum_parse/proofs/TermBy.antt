@@ -60,7 +60,10 @@ term_to (by_else x y) = G.if_else x y
 
 block_first : (n : ℕ) (us vs : Kinds) (xs : List Stmt) (b : Expr) → IsBlock n us xs → IsCalls (suc (suc n)) (e.Block xs) vs b → First (suc n) (us ++ vs) b
 block_first n us vs xs b (G.square {us = ws} y) c = record {
-  token = k.SquareLeft; rest = ws ++ k.SquareRight ∷ vs; split = ap (λ z. k.SquareLeft ∷ z) (append_assoc ws (k.SquareRight ∷ []) vs); by = by_block y c;
+  token = k.SquareLeft;
+  rest = ws ++ k.SquareRight ∷ vs;
+  split = ap (λ z. k.SquareLeft ∷ z) (append_assoc ws (k.SquareRight ∷ []) vs);
+  by = by_block y c;
 }
 
 atom_first : (n : ℕ) (us vs : Kinds) (f b : Expr) → IsAtom n us f → IsCalls (suc n) f vs b → First n (us ++ vs) b
@@ -75,7 +78,10 @@ atom_first n us vs f b (G.name {t = t}) c = record { token = k.Name t; rest = vs
 atom_first n us vs f b G.myself c = record { token = k.Keyword w.KwSelf; rest = vs; split = refl; by = by_myself c }
 atom_first n us vs f b G.empty c = record { token = k.ParenLeft; rest = k.ParenRight ∷ vs; split = refl; by = by_empty c }
 atom_first n us vs f b (G.paren {us = ws} x) c = record {
-  token = k.ParenLeft; rest = ws ++ k.ParenRight ∷ vs; split = ap (λ z. k.ParenLeft ∷ z) (append_assoc ws (k.ParenRight ∷ []) vs); by = by_paren x c;
+  token = k.ParenLeft;
+  rest = ws ++ k.ParenRight ∷ vs;
+  split = ap (λ z. k.ParenLeft ∷ z) (append_assoc ws (k.ParenRight ∷ []) vs);
+  by = by_paren x c;
 }
 atom_first n us vs f b (G.block {n = m} {us = ws} {xs = xs} x) c = block_first m ws vs xs b x c
 
@@ -88,8 +94,8 @@ term_first (G.if_else x y) = record { token = k.Keyword w.KwIf; rest = _; split 
 
 pub term_from : (n : ℕ) (t : TokenKind) (us : Kinds) (b : Expr) → IsTerm n (t ∷ us) b → TermBy n t us b
 term_from n t us b x =
-  let y : First n (t ∷ us) b = term_first x in
-  let all : t ∷ us ≡ y.token ∷ y.rest = y.split in
-  let heads : y.token ≡ t = cc in
-  let tails : y.rest ≡ us = cc in
-  subst (λ z. TermBy n t z b) tails (subst (λ z. TermBy n z y.rest b) heads y.by)
+    let y : First n (t ∷ us) b = term_first x in
+    let all : t ∷ us ≡ y.token ∷ y.rest = y.split in
+    let heads : y.token ≡ t = cc in
+    let tails : y.rest ≡ us = cc in
+    subst (λ z. TermBy n t z b) tails (subst (λ z. TermBy n z y.rest b) heads y.by)

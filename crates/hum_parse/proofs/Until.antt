@@ -6,7 +6,7 @@ use Rattle.hum_parse.specs.declared.tokens.Mark.{Mark}
 use Rattle.hum_parse.specs.Input.{Outcome, Parser, pure, expect, either, and_then, is, stands}
 use Rattle.hum_parse.specs.Rules.{until_from}
 use Rattle.hum_parse.proofs.Exact.{Language, Avoids, Answers, Exact, Ends, Then, exact_some}
-use Rattle.hum_parse.proofs.Steps.{Same, Pure, Word, Close, Begins, along, at_end, begins_more, is_stands, stands_is, exact_else, close_is}
+use Rattle.hum_parse.proofs.Steps.{carried_alone, Same, Pure, Word, Close, Begins, along, at_end, begins_more, is_stands, stands_is, exact_else, close_is}
 
 pub data Until {A : Type 0} (x : Mark) (L : Language A) : List A → Kinds → List A → Type 0 where
   until_end : {found : List A} → Until x L found (stands x ∷ []) found
@@ -46,10 +46,10 @@ module _ {A : Type 0} (x : Mark) (L : Language A) (h r : TokenKind → Bool)
 
   pub exact_until : (g : TokenKind → Bool) (p : Parser A) → ((m : ℕ) → Exact m L r p) → (turns : ℕ) (found : List A) → Exact (suc turns) (Until x L found) g (until_from x p turns found)
   unfolding until_from
-  exact_until g p xs zero found [] k = at_end (Until x L found) g (record { tail = stands x ∷ []; tree = found; ends = until_end }) (λ b y. none found b y [] refl y)
+  exact_until g p xs zero found [] k = at_end (Until x L found) g (record { tail = stands x ∷ []; carried = carried_alone x; tree = found; ends = until_end }) (λ b y. none found b y [] refl y)
   exact_until g p xs zero found (t ∷ ts) k = absurd (omega arith)
   exact_until g p xs (suc turns) found ts k =
-    exact_else x found (Next found) (Until x L found) g (next_to found) until_end (next_from found) (λ b y. next_begins found [] b y) (λ u b y c. apart u (next_begins found u b y) c) (suc turns)
+      exact_else x found (Next found) (Until x L found) g (next_to found) until_end (next_from found) (λ b y. next_begins found [] b y) (λ u b y c. apart u (next_begins found u b y) c) (suc turns)
       (λ us. and_then (p us) (λ a. until_from x p turns (found ++ a ∷ [])))
       (exact_some L r (λ a. Until x L (found ++ a ∷ [])) g (λ a y v b t f. until_avoids (found ++ a ∷ []) y v b t) (λ a l. begins [] a l) turns p (λ a. until_from x p turns (found ++ a ∷ []))
-        (xs (suc (suc turns))) (λ a. exact_until g p xs turns (found ++ a ∷ []))) ts k
+      (xs (suc (suc turns))) (λ a. exact_until g p xs turns (found ++ a ∷ []))) ts k

@@ -61,7 +61,7 @@ stmt_goes k.Comma h = sym h
 stmt_goes _ h = refl
 
 pub stmt_ends : (n : ℕ) → Ends (IsStmt (suc n))
-stmt_ends n = record { tail = k.Undefined ∷ []; tree = s.Do e.Undef; ends = G.does (G.expr_only (G.item_last (G.chain G.undef G.calls_done))) }
+stmt_ends n = record { tail = k.Undefined ∷ []; carried = refl; tree = s.Do e.Undef; ends = G.does (G.expr_only (G.item_last (G.chain G.undef G.calls_done))) }
 
 -- a statement's own words
 abbrev pub is_word : TokenKind → Bool
@@ -82,7 +82,7 @@ expr_word u b n x c = one u (expr_begins x) c
     bad (k.Keyword w.KwBecome) h c = cc
     bad (k.Keyword w.KwThrow) h c = cc
     bad _ h c = let no : false ≡ true = c in cc
+
     one : (u : Kinds) → Begins begins_expr u → Begins is_word u → ⊥
     one [] h c = h
     one (t ∷ u) h c = bad t h c
-

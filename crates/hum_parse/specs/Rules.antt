@@ -202,8 +202,8 @@ module _ (n : ℕ) (inner : Inner) where
   items_from (suc turns) found ts = (if sees mark.Backslash ts then (if n == 0 then refuse else (λ us. (do
     a ← abs_inside
     pure (found ++ a ∷ [])) (next us))) else (do
-    a ← term
-    either mark.Comma (items_from turns (found ++ a ∷ [])) (pure (found ++ a ∷ [])))) ts
+      a ← term
+      either mark.Comma (items_from turns (found ++ a ∷ [])) (pure (found ++ a ∷ [])))) ts
 
   unfoldable pub expr : Parser Expr
   expr = λ ts. (do
@@ -314,8 +314,13 @@ module _ (n : ℕ) (inner : Inner) where
 unfoldable pub inner_at : ℕ → Inner
 inner_at zero = record { expr = refuse; term = refuse; calls = λ f. pure f; pat = refuse; pat_behind = λ x. refuse; arms = refuse; block = refuse }
 inner_at (suc n) = record {
-  expr = expr n (inner_at n); term = term n (inner_at n); calls = calls n (inner_at n); pat = pat n (inner_at n);
-  pat_behind = pat_behind n (inner_at n); arms = arms n (inner_at n); block = stmts n (inner_at n);
+  expr = expr n (inner_at n);
+  term = term n (inner_at n);
+  calls = calls n (inner_at n);
+  pat = pat n (inner_at n);
+  pat_behind = pat_behind n (inner_at n);
+  arms = arms n (inner_at n);
+  block = stmts n (inner_at n);
 }
 
 -- to the end of the tokens

@@ -87,12 +87,7 @@ impl<F: Fn(Global, &mut Tokens<'_>, u32, Form) -> Result<Expr, Stop>> Grammar<F>
 }
 
 /// An expression or a term.
-pub fn expression(
-    alloc: Global,
-    tokens: &mut Tokens<'_>,
-    n: u32,
-    form: Form,
-) -> Result<Expr, Stop>
+pub fn expression(alloc: Global, tokens: &mut Tokens<'_>, n: u32, form: Form) -> Result<Expr, Stop>
     ensures { Reads (spec.expression n form tokens.old) result tokens.new }
 {
     let grammar = Grammar {

@@ -3,10 +3,12 @@
 
 mod expressions;
 mod grammar;
+mod laws;
 mod patterns;
 mod statements;
 mod terms;
 mod tokens;
 mod whole;
 
+pub use laws::{tokens_are_refused_at_one_place, tokens_spell_one_tree};
 pub use whole::{ParseError, parse};

@@ -25,12 +25,7 @@ fn pat_of(mut found: Items<Pat>) -> Pat
 impl<F: Fn(Global, &mut Tokens<'_>, u32, Form) -> Result<Expr, Stop>> Grammar<F> {
     /// A pattern without commas.
     #[cycle(pattern)]
-    #[tactic(auto, unfolding(
-        crate::specs::Rules::pterm,
-        crate::specs::Rules::pterm_by,
-        crate::specs::Rules::pat_value,
-        crate::specs::Rules::pat_inside
-    ), using(crate::proofs::Inside::inside_rules))]
+    #[tactic(auto, unfolding(crate::specs::Rules::pterm, crate::specs::Rules::pterm_by, crate::specs::Rules::pat_value, crate::specs::Rules::pat_inside), using(crate::proofs::Inside::inside_rules))]
     pub fn pterm(&self, tokens: &mut Tokens<'_>, n: u32) -> Result<Pat, Stop>
         requires { Nests n (F.pre self.now.below) (F.post self.now.below) }
         ensures { Reads (spec.pterm n (inner_at n) tokens.old) result tokens.new }

@@ -27,7 +27,13 @@ impl<F: Fn(Global, &mut Tokens<'_>, u32, Form) -> Result<Expr, Stop>> Grammar<F>
 
     /// What a function of this name and argument is.
     #[tactic(auto, unfolding(crate::specs::Rules::function_value, crate::specs::Rules::equals))]
-    fn function_of(&self, tokens: &mut Tokens<'_>, n: u32, name: Name, argument: Boxed<Pat>) -> Result<Stmt, Stop>
+    fn function_of(
+        &self,
+        tokens: &mut Tokens<'_>,
+        n: u32,
+        name: Name,
+        argument: Boxed<Pat>,
+    ) -> Result<Stmt, Stop>
         requires level { 0 < n }
         requires nests { Nests n (F.pre self.now.below) (F.post self.now.below) }
         ensures { Reads (spec.function_value n (inner_at n) name argument tokens.old) result tokens.new }
@@ -108,13 +114,7 @@ impl<F: Fn(Global, &mut Tokens<'_>, u32, Form) -> Result<Expr, Stop>> Grammar<F>
     }
 
     /// A statement.
-    #[tactic(auto, unfolding(
-        crate::specs::Rules::stmt,
-        crate::specs::Rules::stmt_by,
-        crate::specs::Rules::does,
-        crate::specs::Rules::becomes,
-        crate::specs::Rules::throws
-    ))]
+    #[tactic(auto, unfolding(crate::specs::Rules::stmt, crate::specs::Rules::stmt_by, crate::specs::Rules::does, crate::specs::Rules::becomes, crate::specs::Rules::throws))]
     pub fn stmt(&self, tokens: &mut Tokens<'_>, n: u32) -> Result<Stmt, Stop>
         requires { Nests n (F.pre self.now.below) (F.post self.now.below) }
         ensures { Reads (spec.stmt n (inner_at n) tokens.old) result tokens.new }

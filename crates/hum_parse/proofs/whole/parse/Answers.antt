@@ -11,13 +11,13 @@ refused c = ap (program deepest) (sym c.new-rest.ensures) ∙ (rw c.in-Err-Refus
 
 pub overflow_sub-result : goal.overflow_sub-result
 overflow_sub-result c =
-  let short : length c.program.new.tokens ≤ length (kinds c.args.tokens.now) = shorter_whole (kinds c.args.tokens.now) c.program.new.tokens (refused c) in
-  omega (arith, c.len.ensures, kinds_length c.args.tokens.now)
+    let short : length c.program.new.tokens ≤ length (kinds c.args.tokens.now) = shorter_whole (kinds c.args.tokens.now) c.program.new.tokens (refused c) in
+    omega (arith, c.len.ensures, kinds_length c.args.tokens.now)
 
 pub invariant_of-result : goal.invariant_of-result
 invariant_of-result c = record {
   formed = spelled_formed deepest (kinds c.args.tokens.now) c.in-Ok.statements
-    (found_whole (kinds c.args.tokens.now) c.in-Ok.statements c.program.new.tokens (ap (program deepest) (sym c.new-rest.ensures) ∙ c.in-Ok.ensures)) (carried_kinds c.args.tokens.now);
+      (found_whole (kinds c.args.tokens.now) c.in-Ok.statements c.program.new.tokens (ap (program deepest) (sym c.new-rest.ensures) ∙ c.in-Ok.ensures)) (carried_kinds c.args.tokens.now);
 }
 
 pub returns-in-Ok-clause-found : goal.returns-in-Ok-clause-found
@@ -28,9 +28,9 @@ returns-in-Ok-clause-only c = λ other h. inl (ap (λ z. Ok z) (only_tree (kinds
 
 pub returns-in-Err-Refused-clause-refused : goal.returns-in-Err-Refused-clause-refused
 returns-in-Err-Refused-clause-refused c = λ at e.
-  let place : length c.args.tokens.now - c.len.result ≡ at = cc in
-  let size : length (kinds c.args.tokens.now) - length c.program.new.tokens ≡ at = omega (arith, c.len.ensures, kinds_length c.args.tokens.now)
-  in subst (RefusedAt (IsStmts deepest) (kinds c.args.tokens.now)) size (refused_whole (kinds c.args.tokens.now) c.program.new.tokens (refused c))
+    let place : length c.args.tokens.now - c.len.result ≡ at = cc in
+    let size : length (kinds c.args.tokens.now) - length c.program.new.tokens ≡ at = omega (arith, c.len.ensures, kinds_length c.args.tokens.now)
+    in subst (RefusedAt (IsStmts deepest) (kinds c.args.tokens.now)) size (refused_whole (kinds c.args.tokens.now) c.program.new.tokens (refused c))
 
 pub returns-in-Err-Refused-clause-only : goal.returns-in-Err-Refused-clause-only
 returns-in-Err-Refused-clause-only c = λ tree h. absurd (no_tree (kinds c.args.tokens.now) c.program.new.tokens (refused c) tree h)
