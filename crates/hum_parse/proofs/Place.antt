@@ -48,7 +48,7 @@ module _ {A : Type 0} (T : Language A) (g : TokenKind → Bool) where
       let cut : take k (front ++ rest) ≡ front ++ take (k - length front) rest = ap (λ z. take z (front ++ rest)) at ∙ take_past front rest (k - length front) in
       let more = take (k - length front) rest ++ kinds x.0 in
       w more (front ++ more) [] x.1 (taken_head rest (kinds x.0) (k - length front) over fits) (sym (append-nil _))
-        (subst (λ z. T z x.1) (ap (λ z. z ++ kinds x.0) cut ∙ append_assoc front (take (k - length front) rest) (kinds x.0)) x.2) tt
+      (subst (λ z. T z x.1) (ap (λ z. z ++ kinds x.0) cut ∙ append_assoc front (take (k - length front) rest) (kinds x.0)) x.2) tt
 
   whole : (front rest : Kinds) (w : (more u v : Kinds) (b : A) → SameHead rest more → front ++ more ≡ u ++ v → T u b → Avoids g v → ⊥) → (b : A) → T (front ++ rest) b → ⊥
   whole front [] w b t = w [] (front ++ []) [] b tt (sym (append-nil (front ++ []))) t tt
@@ -61,7 +61,7 @@ module _ {A : Type 0} (T : Language A) (g : TokenKind → Bool) where
       tokens_of w.tail w.carried,
       w.tree,
       subst (λ z. T (take (length w.front) ts ++ z) w.tree) (sym (kinds_of w.tail w.carried))
-        (subst (λ z. T (z ++ w.tail) w.tree) (sym (ap (λ z. take (length w.front) z) w.split ∙ take_front w.front rest)) w.begins)
+          (subst (λ z. T (z ++ w.tail) w.tree) (sym (ap (λ z. take (length w.front) z) w.split ∙ take_front w.front rest)) w.begins),
     );
     no_longer = λ k a b x. longer w.front rest w.dead k a (subst (λ z. k ≤ length z) w.split b) (subst (λ z. Begins T (take k z)) w.split x);
     no_tree = λ b t. whole w.front rest w.dead b (subst (λ z. T z b) w.split t);

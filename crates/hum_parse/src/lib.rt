@@ -7,6 +7,8 @@ mod laws;
 mod patterns;
 mod statements;
 mod terms;
+#[cfg(test)]
+mod tests;
 mod tokens;
 mod whole;
 
