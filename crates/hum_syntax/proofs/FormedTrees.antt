@@ -25,7 +25,7 @@ use Rattle.hum_syntax.specs.Spells.{Kinds, kinds, IsStmts, IsStmt, IsExpr, IsIte
 use Rattle.hum_syntax.proofs.Folding as folds
 use Rattle.hum_syntax.proofs.Folding.{Steps}
 
-abbrev formed : Steps Bool Bool Bool Bool Bool
+abbrev pub formed : Steps Bool Bool Bool Bool Bool
 formed = record { expr = expr_formed; pat = pat_formed; stmt = stmt_formed; an_arm = arm_formed; a_branch = branch_formed }
 
 -- each token carries what it may

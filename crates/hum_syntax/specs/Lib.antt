@@ -7,3 +7,5 @@ pub mod Formed
 pub mod Sizes
 pub mod Names
 pub mod Laws
+pub mod Writes
+pub mod Prints
