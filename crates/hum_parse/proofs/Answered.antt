@@ -1,17 +1,16 @@
 -- From the outcomes of a program to what the parser says.
-use Rattle.std.proofs.Common.{◌≡◌, ◌<◌, ◌≤◌, ◌+◌, ◌-◌, ℕ, zero, suc, true, List, [], ◌∷◌, ◌++◌, length, Ok, Err, IsTrue, refl, sym, ap, ◌∙◌, subst, arith, append-nil, length-append}
+use Rattle.std.proofs.Common.{◌≡◌, ◌≤◌, ◌-◌, ℕ, zero, suc, true, List, [], ◌∷◌, ◌++◌, length, Ok, Err, IsTrue, refl, sym, ap, ◌∙◌, subst, arith, append-nil, length-append}
 use Rattle.std.proofs.Math.Bool.{Bool-set}
 use Rattle.hum_syntax.specs.Formed.{are_formed}
-use Rattle.hum_syntax.specs.declared.TokenKind.{TokenKind}
 use Rattle.hum_syntax.specs.declared.Stmt.{Stmt}
 use Rattle.hum_syntax.specs.declared.Tree.{Tree}
-use Rattle.hum_syntax.specs.Spells.{Kinds, kinds, IsStmts, IsStmt, Spells, deepest}
+use Rattle.hum_syntax.specs.Spells.{Kinds, kinds, IsStmts, Spells, deepest}
 use Rattle.hum_parse.specs.Input.{Outcome, and_then}
 use Rattle.hum_syntax.specs.declared.Token.{Token}
-use Rattle.hum_parse.specs.Begins.{Begins, RefusedAt}
+use Rattle.hum_parse.specs.Begins.{RefusedAt}
 use Rattle.hum_parse.specs.Laws.{OneTree}
 use Rattle.hum_parse.specs.Rules.{program, program_from, stmt, inner_at}
-use Rattle.hum_parse.proofs.Exact.{Language, SameHead, Avoids, Found, Stopped, Answers}
+use Rattle.hum_parse.proofs.Exact.{Language, SameHead, Answers}
 use Rattle.hum_parse.proofs.Levels.{Behind}
 use Rattle.hum_parse.proofs.Place.{refused_at}
 use Rattle.hum_parse.proofs.ExactProgram.{all_on, exact_program}

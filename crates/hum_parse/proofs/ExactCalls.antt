@@ -1,18 +1,16 @@
 -- The calls that a chain goes on with.
-use Rattle.std.proofs.Common.{◌≡◌, ◌==◌, ℕ, zero, suc, Bool, true, false, cond, List, [], ◌∷◌, ◌++◌, length, Result, Ok, Err, refl, sym, ap, ◌∙◌, subst, arith, ◌⊎◌, inl, inr, append_assoc, append-nil}
-use Rattle.hum_syntax.specs.declared.TokenKind.{TokenKind}
+use Rattle.std.proofs.Common.{◌≡◌, ℕ, zero, suc, [], ◌∷◌, ◌++◌, Err, refl, sym, ap, ◌∙◌, subst, arith, ◌⊎◌, inl, inr}
 use Rattle.hum_syntax.specs.declared.TokenKind.TheVariants as k
-use Rattle.hum_syntax.specs.declared.Keyword.TheVariants as w
 use Rattle.hum_syntax.specs.declared.Expr.{Expr}
 use Rattle.hum_syntax.specs.declared.Expr.TheVariants as e
 use Rattle.hum_syntax.specs.Spells as G
 use Rattle.hum_syntax.specs.Spells.{Kinds, IsExpr, IsCalls}
 use Rattle.hum_parse.specs.declared.tokens.Mark.TheVariants as mark
-use Rattle.hum_parse.specs.Input.{Parser, pure, expect, either, and_then, is, stands}
+use Rattle.hum_parse.specs.Input.{Parser, pure, expect, either, and_then}
 use Rattle.hum_parse.specs.Rules.{Inner, calls, call_inside}
-use Rattle.hum_parse.proofs.Exact.{Language, Avoids, Answers, Exact, Then, exact_then}
-use Rattle.hum_parse.proofs.Steps.{Same, Pure, Word, Or, Begins, begins_more, along, is_stands, word_follows, exact_or, exact_branch, exact_only, exact_word, word_is, worded}
-use Rattle.hum_parse.proofs.Levels.{goes_term, goes_on, Below, Levels, level_calls, not_last}
+use Rattle.hum_parse.proofs.Exact.{Language, Answers, Exact, Then, exact_then}
+use Rattle.hum_parse.proofs.Steps.{Same, Word, Or, Begins, begins_more, along, word_follows, exact_or, exact_branch, exact_only, exact_word, word_is, worded}
+use Rattle.hum_parse.proofs.Levels.{goes_term, goes_on, Below, Levels, not_last}
 use Rattle.hum_parse.proofs.First.{begins_expr, expr_begins, apart_right}
 
 -- behind the opening parenthesis and an expression

@@ -1,22 +1,19 @@
 -- Expressions, and arms.
-use Rattle.std.proofs.Common.{◌≡◌, ◌==◌, ◌<◌, ◌≤◌, ◌+◌, ℕ, zero, suc, Bool, true, false, List, [], ◌∷◌, ◌++◌, length, Ok, Err, refl, sym, ap, ◌∙◌, subst, arith, ◌⊎◌, inl, inr, append_assoc, append-nil}
+use Rattle.std.proofs.Common.{◌≡◌, ℕ, zero, suc, Bool, true, false, List, [], ◌∷◌, ◌++◌, length, refl, sym, ap, ◌∙◌, subst, arith, ◌⊎◌, inl, inr, append_assoc, append-nil}
 use Rattle.hum_syntax.specs.declared.TokenKind.{TokenKind}
 use Rattle.hum_syntax.specs.declared.TokenKind.TheVariants as k
-use Rattle.hum_syntax.specs.declared.Keyword.TheVariants as w
 use Rattle.hum_syntax.specs.declared.Expr.{Expr}
 use Rattle.hum_syntax.specs.declared.Expr.TheVariants as e
-use Rattle.hum_syntax.specs.declared.Pat.{Pat}
-use Rattle.hum_syntax.specs.declared.Pat.TheVariants as p
 use Rattle.hum_syntax.specs.declared.Arm.{Arm}
 use Rattle.hum_syntax.specs.Spells as G
 use Rattle.hum_syntax.specs.Spells.{Kinds, arm, IsExpr, IsItems, IsTerm, IsArms, IsArm, IsPat}
 use Rattle.hum_parse.specs.declared.tokens.Mark.TheVariants as mark
-use Rattle.hum_parse.specs.Input.{Outcome, Parser, pure, expect, either, and_then, is, stands}
+use Rattle.hum_parse.specs.Input.{pure, expect, either, and_then}
 use Rattle.hum_parse.specs.Rules.{Inner, term, abs_inside, items_from, expr, expr_of, arm_rule}
-use Rattle.hum_parse.proofs.Exact.{Language, Avoids, Answers, Exact, Ends, Then, exact_then}
-use Rattle.hum_parse.proofs.Steps.{Same, Pure, Word, Or, Close, Begins, along, took, at_end, no_way, narrowed, begins_more, is_stands, no_follow, word_follows, exact_pure, exact_or, exact_branch, exact_only, exact_word, exact_made, word_is, worded, pured, unpured, pure_split, pure_follows, close_is, closes}
-use Rattle.hum_parse.proofs.Levels.{Behind, goes_term, goes_on, avoids_less, ArmsEnd, Below, Levels, not_last}
-use Rattle.hum_parse.proofs.First.{begins_expr, expr_begins, items_begins, term_begins}
+use Rattle.hum_parse.proofs.Exact.{Language, Exact, Ends, Then, exact_then}
+use Rattle.hum_parse.proofs.Steps.{Same, Pure, Word, Or, Begins, along, took, at_end, no_way, narrowed, word_follows, exact_or, exact_word, exact_made, word_is, worded, pured, unpured, pure_split}
+use Rattle.hum_parse.proofs.Levels.{Behind, goes_term, goes_on, Below, Levels, not_last}
+use Rattle.hum_parse.proofs.First.{items_begins}
 use Rattle.hum_parse.proofs.ExactPatterns.{or_follows}
 use Rattle.hum_parse.proofs.ExactTerms.{exact_term}
 use Rattle.hum_parse.proofs.TermBy as by

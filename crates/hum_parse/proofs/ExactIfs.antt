@@ -1,5 +1,5 @@
 -- Behind an IF.
-use Rattle.std.proofs.Common.{◌≡◌, ◌<◌, ◌≤◌, ◌+◌, ℕ, zero, suc, Bool, true, false, List, [], ◌∷◌, ◌++◌, length, Option, Some, None, refl, sym, ap, ◌∙◌, subst, arith, ◌⊎◌, inl, inr, append_assoc, append-nil}
+use Rattle.std.proofs.Common.{◌≡◌, ℕ, zero, suc, Bool, true, false, List, [], ◌∷◌, ◌++◌, length, Some, None, refl, sym, ap, ◌∙◌, subst, arith, ◌⊎◌, inl, inr, append_assoc, append-nil}
 use Rattle.hum_syntax.specs.declared.TokenKind.{TokenKind}
 use Rattle.hum_syntax.specs.declared.TokenKind.TheVariants as k
 use Rattle.hum_syntax.specs.declared.Keyword.TheVariants as w
@@ -10,11 +10,11 @@ use Rattle.hum_syntax.specs.declared.Stmt.{Stmt}
 use Rattle.hum_syntax.specs.Spells as G
 use Rattle.hum_syntax.specs.Spells.{Kinds, branch, IsExpr, IsBranches, IsBlock, IsStmts}
 use Rattle.hum_parse.specs.declared.tokens.Mark.TheVariants as mark
-use Rattle.hum_parse.specs.Input.{Parser, pure, expect, either, and_then, is, stands}
+use Rattle.hum_parse.specs.Input.{pure, either, and_then, is}
 use Rattle.hum_parse.specs.Rules.{Inner, block, else_block, ifs_from, otherwise, if_term}
 use Rattle.hum_parse.proofs.Exact.{Language, Avoids, Answers, Exact, Ends, Then, exact_then}
-use Rattle.hum_parse.proofs.Steps.{Same, Pure, Word, Or, Close, Begins, along, at_end, begins_more, is_stands, stands_is, no_follow, word_follows, exact_or, exact_branch, exact_word, exact_made, word_is, worded, pured, unpured, pure_split, close_is, closes}
-use Rattle.hum_parse.proofs.Levels.{goes_term, goes_on, BlockEnd, Below, Levels}
+use Rattle.hum_parse.proofs.Steps.{Same, Pure, Word, Or, Begins, along, at_end, begins_more, is_stands, no_follow, exact_or, exact_branch, exact_word, exact_made, word_is, worded, pured, pure_split, close_is, closes}
+use Rattle.hum_parse.proofs.Levels.{goes_term, goes_on, BlockEnd, Below}
 use Rattle.hum_parse.proofs.First.{begins_expr, expr_begins}
 use Rattle.hum_parse.proofs.TermBy.{TermBy, by_if, by_else}
 

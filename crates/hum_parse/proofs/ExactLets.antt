@@ -1,11 +1,10 @@
 -- What stands behind LET.
-use Rattle.std.proofs.Common.{◌≡◌, ◌==◌, ◌<◌, ◌≤◌, ◌+◌, ℕ, zero, suc, Bool, true, false, List, [], ◌∷◌, ◌++◌, length, Ok, Err, refl, sym, ap, ◌∙◌, subst, arith, ◌⊎◌, inl, inr, append_assoc, append-nil}
+use Rattle.std.proofs.Common.{◌≡◌, ℕ, suc, Bool, true, false, List, [], ◌∷◌, ◌++◌, length, refl, sym, ap, ◌∙◌, subst, arith, ◌⊎◌, inl, inr}
 use Rattle.hum_syntax.specs.declared.TokenKind.{TokenKind}
 use Rattle.hum_syntax.specs.declared.TokenKind.TheVariants as k
 use Rattle.hum_syntax.specs.declared.Keyword.TheVariants as w
 use Rattle.hum_syntax.specs.declared.Expr.{Expr}
 use Rattle.hum_syntax.specs.declared.Expr.TheVariants as e
-use Rattle.hum_syntax.specs.declared.Arm.{Arm}
 use Rattle.hum_syntax.specs.declared.Stmt.{Stmt}
 use Rattle.hum_syntax.specs.declared.Stmt.TheVariants as s
 use Rattle.hum_syntax.specs.declared.Pat.{Pat}
@@ -13,15 +12,14 @@ use Rattle.hum_syntax.specs.declared.Pat.TheVariants as p
 use Rattle.hum_syntax.specs.Spells as G
 use Rattle.hum_syntax.specs.Spells.{Kinds, arm, IsExpr, IsPat, IsPterm, IsStmt}
 use Rattle.hum_parse.specs.declared.tokens.Mark.TheVariants as mark
-use Rattle.hum_parse.specs.Input.{Outcome, Parser, pure, expect, either, and_then, is, stands}
+use Rattle.hum_parse.specs.Input.{pure, expect, and_then, is}
 use Rattle.hum_parse.specs.Rules.{Inner, equals, function, function_value, function_inside, let_value, let_named, let_pattern, let_rule}
-use Rattle.hum_parse.proofs.Exact.{SameHead, Found, Stopped, same_behind, exact_some, Language, Avoids, Answers, Exact, Ends, Then, exact_then}
-use Rattle.hum_parse.proofs.Steps.{Or, is_stands, exact_branch, Same, Pure, Word, Close, Begins, along, took, at_end, no_way, narrowed, begins_more, word_follows, exact_pure, exact_word, exact_made, word_is, worded, pured, unpured, pure_split, close_is, closes, pure_follows, exact_shut}
-use Rattle.hum_parse.proofs.Levels.{PatBehind, PatsRest, not_last, goes_term, goes_on, ArmsEnd, ArmsAt, BlockEnd, Below, Levels}
-use Rattle.hum_parse.proofs.First.{begins_expr, expr_begins}
+use Rattle.hum_parse.proofs.Exact.{Language, Avoids, Answers, Exact, Then, exact_then}
+use Rattle.hum_parse.proofs.Steps.{is_stands, exact_branch, Pure, Word, Begins, along, took, narrowed, begins_more, word_follows, exact_word, exact_made, word_is, worded, pured, pure_split}
+use Rattle.hum_parse.proofs.Levels.{PatBehind, PatsRest, goes_on, Below}
 use Rattle.hum_parse.proofs.ExactPatterns.{begins_pterm, pterm_begins, pat_begins, pat_same, only_name}
 use Rattle.hum_parse.proofs.Names.{is_name}
-use Rattle.hum_parse.proofs.Words.{expr_word, is_word}
+use Rattle.hum_parse.proofs.Words.{expr_word}
 
 -- the equals sign, and an expression that a statement is made of
 abbrev EqualsTail : ℕ → (Expr → Stmt) → Language Stmt

@@ -1,5 +1,5 @@
 -- Patterns.
-use Rattle.std.proofs.Common.{◌≡◌, ◌==◌, ℕ, ℤ, zero, suc, ◌<◌, ◌≤◌, ◌+◌, Bool, true, false, cond, List, [], ◌∷◌, ◌++◌, length, Result, Ok, Err, refl, sym, ap, ◌∙◌, subst, arith, ◌⊎◌, inl, inr, append_assoc, append-nil}
+use Rattle.std.proofs.Common.{◌≡◌, ℕ, ℤ, zero, suc, Bool, true, false, List, [], ◌∷◌, ◌++◌, length, Ok, Err, refl, sym, ap, ◌∙◌, subst, arith, ◌⊎◌, inl, inr, append_assoc, append-nil}
 use Rattle.hum_syntax.specs.declared.TokenKind.{TokenKind}
 use Rattle.hum_syntax.specs.declared.TokenKind.TheVariants as k
 use Rattle.hum_syntax.specs.declared.Keyword.TheVariants as w
@@ -9,11 +9,11 @@ use Rattle.hum_syntax.specs.declared.Expr.{Expr}
 use Rattle.hum_syntax.specs.Spells as G
 use Rattle.hum_syntax.specs.Spells.{Kinds, IsPterm, IsPats, IsPat, IsTerm, IsExpr}
 use Rattle.hum_parse.specs.declared.tokens.Mark.TheVariants as mark
-use Rattle.hum_parse.specs.Input.{Outcome, Parser, pure, expect, either, and_then, is, stands}
+use Rattle.hum_parse.specs.Input.{pure, expect, either, and_then, is}
 use Rattle.hum_parse.specs.Rules.{Inner, pterm, pterm_by, pat_inside, pat_value, pats_from, pat, pat_behind, pat_of}
 use Rattle.hum_parse.proofs.Levels.{goes_term, goes_on, avoids_less, Behind, PatBehind, PatsRest, not_last, Below, Levels}
-use Rattle.hum_parse.proofs.Exact.{Language, Avoids, Found, Stopped, Answers, Exact, Ends, Then, exact_then, completed}
-use Rattle.hum_parse.proofs.Steps.{Same, Pure, Word, Or, Begins, along, took, at_end, no_way, exact_pure, exact_expect, narrowed, exact_or, is_stands, stands_is, begins_more, no_follow, word_follows, Close, closes, exact_close, exact_else, exact_shut, pure_follows, pured, pure_split, exact_made}
+use Rattle.hum_parse.proofs.Exact.{Language, Avoids, Answers, Exact, Ends, Then, exact_then}
+use Rattle.hum_parse.proofs.Steps.{Same, Pure, Word, Or, Begins, along, took, at_end, no_way, exact_pure, exact_or, is_stands, begins_more, word_follows, Close, closes, exact_close, exact_else, exact_shut, pured, pure_split, exact_made}
 
 -- ---- a pattern between commas
 

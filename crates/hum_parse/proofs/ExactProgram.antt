@@ -1,27 +1,19 @@
 -- All levels, and a program.
-use Rattle.std.proofs.Common.{◌≡◌, ◌==◌, ◌<◌, ◌≤◌, ◌+◌, ℕ, zero, suc, Bool, true, false, List, [], ◌∷◌, ◌++◌, length, Ok, Err, refl, sym, ap, ◌∙◌, subst, arith, ◌⊎◌, inl, inr, append_assoc, append-nil}
+use Rattle.std.proofs.Common.{◌≡◌, ℕ, zero, suc, Bool, true, false, List, [], ◌∷◌, ◌++◌, length, Ok, Err, refl, sym, ap, ◌∙◌, subst, arith, ◌⊎◌, inl, inr, append_assoc, append-nil}
 use Rattle.hum_syntax.specs.declared.TokenKind.{TokenKind}
-use Rattle.hum_syntax.specs.declared.TokenKind.TheVariants as k
-use Rattle.hum_syntax.specs.declared.Keyword.TheVariants as w
 use Rattle.hum_syntax.specs.declared.Expr.{Expr}
-use Rattle.hum_syntax.specs.declared.Expr.TheVariants as e
-use Rattle.hum_syntax.specs.declared.Arm.{Arm}
 use Rattle.hum_syntax.specs.declared.Stmt.{Stmt}
-use Rattle.hum_syntax.specs.declared.Stmt.TheVariants as s
 use Rattle.hum_syntax.specs.Spells as G
 use Rattle.hum_syntax.specs.Spells.{Kinds, arm, IsExpr, IsPat, IsArms, IsArm, IsStmts, IsStmt}
-use Rattle.hum_parse.specs.declared.tokens.Mark.TheVariants as mark
-use Rattle.hum_parse.specs.Input.{Outcome, Parser, pure, expect, either, and_then, is, stands}
-use Rattle.hum_parse.specs.Rules.{Inner, arm_rule, arms, until_from, send, does, becomes, throws, stmt, stmts, inner_at, expr, term, calls, pat, pat_behind, program, program_from}
-use Rattle.hum_parse.proofs.Exact.{SameHead, Found, Stopped, same_behind, exact_some, Language, Avoids, Answers, Exact, Ends, Then, exact_then}
-use Rattle.hum_parse.proofs.Steps.{Same, Pure, Word, Close, Begins, along, took, at_end, no_way, narrowed, begins_more, word_follows, exact_pure, exact_word, exact_made, word_is, worded, pured, unpured, pure_split, close_is, closes, pure_follows, exact_shut}
-use Rattle.hum_parse.proofs.Levels.{Behind, not_last, goes_term, goes_on, ArmsEnd, ArmsAt, BlockEnd, Below, Levels}
-use Rattle.hum_parse.proofs.First.{begins_expr, expr_begins}
-use Rattle.hum_parse.proofs.ExactPatterns.{begins_pterm, pat_begins, exact_pat, exact_pat_behind}
+use Rattle.hum_parse.specs.Input.{Outcome, pure}
+use Rattle.hum_parse.specs.Rules.{Inner, stmt, inner_at, calls, program, program_from}
+use Rattle.hum_parse.proofs.Exact.{SameHead, Found, same_behind, exact_some, Language, Avoids, Answers, Exact, Then}
+use Rattle.hum_parse.proofs.Steps.{Pure, Begins, along, begins_more, exact_pure}
+use Rattle.hum_parse.proofs.Levels.{Behind, goes_term, goes_on, ArmsAt, Levels}
+use Rattle.hum_parse.proofs.ExactPatterns.{exact_pat, exact_pat_behind}
 use Rattle.hum_parse.proofs.ExactCalls.{exact_calls}
 use Rattle.hum_parse.proofs.ExactTerms.{exact_term}
-use Rattle.hum_parse.proofs.ExactExprs.{exact_expr, exact_arm}
-use Rattle.hum_parse.proofs.Until.{Until, until_end, until_more, until_avoids, exact_until}
+use Rattle.hum_parse.proofs.ExactExprs.{exact_expr}
 use Rattle.hum_parse.proofs.ExactArms.{exact_arms}
 use Rattle.hum_parse.proofs.Words.{begins_stmt, stmt_begins, stmt_goes}
 use Rattle.hum_parse.proofs.ExactStmts.{some_stmt, exact_stmt}

@@ -1,22 +1,18 @@
 -- Statements.
-use Rattle.std.proofs.Common.{◌≡◌, ◌==◌, ◌<◌, ◌≤◌, ◌+◌, ℕ, zero, suc, Bool, true, false, List, [], ◌∷◌, ◌++◌, length, Ok, Err, refl, sym, ap, ◌∙◌, subst, arith, ◌⊎◌, inl, inr, append_assoc, append-nil}
+use Rattle.std.proofs.Common.{◌≡◌, ℕ, suc, false, [], ◌∷◌, ◌++◌, length, refl, sym, ap, ◌∙◌, subst, arith, ◌⊎◌, inl, inr}
 use Rattle.hum_syntax.specs.declared.TokenKind.{TokenKind}
 use Rattle.hum_syntax.specs.declared.TokenKind.TheVariants as k
 use Rattle.hum_syntax.specs.declared.Keyword.TheVariants as w
-use Rattle.hum_syntax.specs.declared.Expr.{Expr}
-use Rattle.hum_syntax.specs.declared.Expr.TheVariants as e
-use Rattle.hum_syntax.specs.declared.Arm.{Arm}
 use Rattle.hum_syntax.specs.declared.Stmt.{Stmt}
 use Rattle.hum_syntax.specs.declared.Stmt.TheVariants as s
 use Rattle.hum_syntax.specs.Spells as G
 use Rattle.hum_syntax.specs.Spells.{Kinds, arm, IsExpr, IsPat, IsArms, IsArm, IsStmts, IsStmt}
 use Rattle.hum_parse.specs.declared.tokens.Mark.TheVariants as mark
-use Rattle.hum_parse.specs.Input.{expect_name, Outcome, Parser, pure, expect, either, and_then, is, stands}
+use Rattle.hum_parse.specs.Input.{expect_name, Outcome, pure, expect, and_then}
 use Rattle.hum_parse.specs.Rules.{Inner, let_rule, create, send, does, becomes, throws, stmt, stmt_by}
-use Rattle.hum_parse.proofs.Exact.{SameHead, Found, Stopped, same_behind, exact_some, Language, Avoids, Answers, Exact, Ends, Then, exact_then}
-use Rattle.hum_parse.proofs.Steps.{Same, Pure, Word, Close, Begins, along, took, at_end, no_way, narrowed, begins_more, word_follows, no_follow, exact_pure, exact_word, exact_made, word_is, worded, pured, unpured, pure_split, close_is, closes, pure_follows, exact_shut}
-use Rattle.hum_parse.proofs.Levels.{Behind, not_last, goes_term, goes_on, ArmsEnd, ArmsAt, BlockEnd, Below, Levels}
-use Rattle.hum_parse.proofs.First.{begins_expr, expr_begins}
+use Rattle.hum_parse.proofs.Exact.{Language, Avoids, Answers, Exact, Then, exact_then}
+use Rattle.hum_parse.proofs.Steps.{Same, Pure, Word, Begins, along, took, at_end, narrowed, word_follows, no_follow, exact_word, exact_made, word_is, worded, pured, unpured, pure_split}
+use Rattle.hum_parse.proofs.Levels.{not_last, goes_on, Below}
 use Rattle.hum_parse.proofs.Names.{NameIs, exact_name}
 use Rattle.hum_parse.proofs.ExactLets.{LetTail, exact_let}
 use Rattle.hum_parse.proofs.Words.{is_word, expr_word, stmt_begins, stmt_ends}

@@ -1,5 +1,5 @@
 -- Terms.
-use Rattle.std.proofs.Common.{◌≡◌, ◌==◌, ◌<◌, ◌≤◌, ◌+◌, ℕ, ℤ, zero, suc, nat_lt, Bool, true, false, List, [], ◌∷◌, ◌++◌, length, Ok, Err, refl, sym, ap, ◌∙◌, subst, arith, ◌⊎◌, inl, inr, append_assoc, append-nil}
+use Rattle.std.proofs.Common.{◌≡◌, ℕ, ℤ, zero, suc, nat_lt, Bool, true, false, List, [], ◌∷◌, ◌++◌, length, Err, refl, sym, ap, ◌∙◌, subst, arith, ◌⊎◌, inl, inr, append_assoc}
 use Rattle.std.proofs.lemmas.Bool.Decides.{nat_tests}
 use Rattle.hum_syntax.specs.declared.TokenKind.{TokenKind}
 use Rattle.hum_syntax.specs.declared.TokenKind.TheVariants as k
@@ -7,17 +7,15 @@ use Rattle.hum_syntax.specs.declared.Keyword.TheVariants as w
 use Rattle.hum_syntax.specs.declared.Expr.{Expr}
 use Rattle.hum_syntax.specs.declared.Expr.TheVariants as e
 use Rattle.hum_syntax.specs.declared.Arm.{Arm}
-use Rattle.hum_syntax.specs.declared.Stmt.{Stmt}
 use Rattle.hum_syntax.specs.Spells as G
 use Rattle.hum_syntax.specs.Spells.{Kinds, IsExpr, IsTerm, IsCalls, IsArms, IsArm, IsPat, IsStmts}
 use Rattle.hum_parse.specs.declared.tokens.Mark.TheVariants as mark
-use Rattle.hum_parse.specs.Input.{Outcome, Parser, pure, expect, either, and_then, is, stands}
+use Rattle.hum_parse.specs.Input.{Outcome, pure, expect, either, and_then}
 use Rattle.hum_parse.specs.Rules.{Inner, term, term_by, calls, paren_inside, block_atom, new_term, case_term, if_term, keyword_term, paren_term}
-use Rattle.hum_parse.proofs.Exact.{Language, Avoids, Answers, Exact, Ends, Then, exact_then}
-use Rattle.hum_parse.proofs.Steps.{Same, Pure, Word, Close, Begins, along, took, at_end, no_way, begins_more, is_stands, no_follow, word_follows, exact_branch, exact_only, exact_word, exact_made, word_is, worded, pured, unpured, pure_split, close_is, closes}
+use Rattle.hum_parse.proofs.Exact.{Language, Answers, Exact, Ends, Then, exact_then}
+use Rattle.hum_parse.proofs.Steps.{Same, Pure, Word, Begins, along, took, at_end, no_way, begins_more, no_follow, word_follows, exact_branch, exact_only, exact_word, exact_made, word_is, worded, pured, unpured, pure_split, close_is, closes}
 use Rattle.hum_parse.proofs.Levels.{goes_term, goes_on, ArmsEnd, BlockEnd, Below, Levels, not_last}
 use Rattle.hum_parse.proofs.First.{begins_expr, expr_begins, term_begins, apart_right}
-use Rattle.hum_parse.proofs.TermBy
 use Rattle.hum_parse.proofs.TermBy.{TermBy, term_to, term_from}
 use Rattle.hum_parse.proofs.ExactCalls.{exact_calls}
 use Rattle.hum_parse.proofs.ExactIfs.{exact_if}

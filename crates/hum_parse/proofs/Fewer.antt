@@ -1,5 +1,5 @@
 -- What reads with fewer levels than n reads with fewer than one less.
-use Rattle.std.proofs.Common.{ℕ, ◌<◌, ◌≤◌, ◌-◌, Result, arith}
+use Rattle.std.proofs.Common.{ℕ, ◌-◌, Result, arith}
 use Rattle.std.specs.declared.alloc.Global.{Global}
 use denote.Ref.{MutBor}
 use Rattle.hum_syntax.specs.declared.Expr.{Expr}

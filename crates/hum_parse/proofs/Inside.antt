@@ -1,5 +1,5 @@
 -- The rules one level down, as the code calls them.
-use Rattle.std.proofs.Common.{◌≡◌, ℕ, zero, suc, ◌<◌, ◌-◌, ap, refl, arith, sym, ◌∙◌, Ok}
+use Rattle.std.proofs.Common.{◌≡◌, ℕ, zero, suc, ◌<◌, ◌-◌, ap, refl, arith, sym, Ok}
 use Rattle.hum_syntax.specs.declared.Expr.{Expr}
 use Rattle.hum_syntax.specs.declared.Pat.{Pat}
 use Rattle.hum_syntax.specs.Spells.{Kinds}

@@ -4,8 +4,8 @@ use Rattle.std.specs.Prelude.{codes}
 use Rattle.hum_syntax.specs.declared.TokenKind.{TokenKind}
 use Rattle.hum_syntax.specs.declared.TokenKind.TheVariants as k
 use Rattle.hum_syntax.specs.Spells.{Kinds}
-use Rattle.hum_parse.specs.Input.{Parser, expect_name}
-use Rattle.hum_parse.proofs.Exact.{Language, Avoids, Answers, Ends}
+use Rattle.hum_parse.specs.Input.{expect_name}
+use Rattle.hum_parse.proofs.Exact.{Language, Answers, Ends}
 use Rattle.hum_parse.proofs.Steps.{at_end, no_way}
 
 -- this name

@@ -1,12 +1,12 @@
 -- Lists that end with a token.
-use Rattle.std.proofs.Common.{◌≡◌, ◌<◌, ◌≤◌, ◌+◌, ℕ, zero, suc, Bool, true, false, List, [], ◌∷◌, ◌++◌, length, Ok, Err, refl, sym, ap, ◌∙◌, subst, arith, ◌⊎◌, inl, inr, append_assoc, append-nil}
+use Rattle.std.proofs.Common.{◌≡◌, ℕ, zero, suc, Bool, true, false, List, [], ◌∷◌, ◌++◌, refl, sym, ap, ◌∙◌, subst, arith, ◌⊎◌, inl, inr}
 use Rattle.hum_syntax.specs.declared.TokenKind.{TokenKind}
 use Rattle.hum_syntax.specs.Spells.{Kinds}
 use Rattle.hum_parse.specs.declared.tokens.Mark.{Mark}
-use Rattle.hum_parse.specs.Input.{Outcome, Parser, pure, expect, either, and_then, is, stands}
+use Rattle.hum_parse.specs.Input.{Parser, and_then, is, stands}
 use Rattle.hum_parse.specs.Rules.{until_from}
-use Rattle.hum_parse.proofs.Exact.{Language, Avoids, Answers, Exact, Ends, Then, exact_some}
-use Rattle.hum_parse.proofs.Steps.{carried_alone, Same, Pure, Word, Close, Begins, along, at_end, begins_more, is_stands, stands_is, exact_else, close_is}
+use Rattle.hum_parse.proofs.Exact.{Language, Avoids, Exact, Then, exact_some}
+use Rattle.hum_parse.proofs.Steps.{carried_alone, Close, Begins, at_end, begins_more, is_stands, exact_else}
 
 pub data Until {A : Type 0} (x : Mark) (L : Language A) : List A → Kinds → List A → Type 0 where
   until_end : {found : List A} → Until x L found (stands x ∷ []) found

@@ -1,5 +1,5 @@
 -- What each function of the parser answers: one tree from the front, and where it stops.
-use Rattle.std.specs.Prelude.{ℕ, zero, suc, ◌-◌, ◌==◌, nat_lt, if◌then◌else◌, List, [], ◌∷◌, ◌++◌, Ok, Err, Some, None, length}
+use Rattle.std.specs.Prelude.{ℕ, zero, suc, ◌==◌, nat_lt, if◌then◌else◌, List, [], ◌∷◌, ◌++◌, Ok, Err, Some, None, length}
 use Rattle.hum_syntax.specs.declared.TokenKind.{TokenKind}
 use Rattle.hum_syntax.specs.declared.TokenKind.TheVariants as k
 use Rattle.hum_syntax.specs.declared.Keyword.{Keyword}
@@ -12,7 +12,7 @@ use Rattle.hum_syntax.specs.declared.Stmt.{Stmt}
 use Rattle.hum_syntax.specs.declared.Stmt.TheVariants as s
 use Rattle.hum_syntax.specs.declared.Arm.{Arm}
 use Rattle.hum_syntax.specs.declared.Branch.{Branch}
-use Rattle.hum_syntax.specs.Spells.{Kinds, arm, branch}
+use Rattle.hum_syntax.specs.Spells.{arm, branch}
 use Rattle.hum_parse.specs.declared.tokens.Mark.{Mark}
 use Rattle.hum_parse.specs.declared.tokens.Mark.TheVariants as mark
 use Rattle.hum_parse.specs.Input.{Parser, ◌>>=◌, ◌>>◌, pure, refuse, expect, either, sees, next, either_name, expect_name}

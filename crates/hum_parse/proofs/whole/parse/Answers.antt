@@ -1,5 +1,5 @@
-use Rattle.std.proofs.Common.{◌≡◌, ◌≤◌, ◌-◌, ℕ, arith, length, ap, sym, ◌∙◌, subst, inl, Ok, Err}
-use Rattle.hum_syntax.specs.Spells.{Spells, IsStmts, deepest, kinds}
+use Rattle.std.proofs.Common.{◌≡◌, ◌≤◌, ◌-◌, arith, length, ap, sym, ◌∙◌, subst, inl, Ok, Err}
+use Rattle.hum_syntax.specs.Spells.{IsStmts, deepest, kinds}
 use Rattle.hum_syntax.proofs.FormedTrees.{spelled_formed, carried_kinds}
 use Rattle.hum_parse.specs.Begins.{RefusedAt}
 use Rattle.hum_parse.specs.Rules.{program}

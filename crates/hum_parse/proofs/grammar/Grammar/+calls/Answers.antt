@@ -1,7 +1,7 @@
-use Rattle.std.proofs.Common.{rules, arith, ◌-◌}
+use Rattle.std.proofs.Common.{rules, arith}
 use Rattle.std.proofs.lemmas.Grind.{common_steps}
 use Rattle.hum_syntax.specs.declared.Expr.TheVariants as e
-use Rattle.hum_parse.specs.Rules.{inner_at, calls, call_inside}
+use Rattle.hum_parse.specs.Rules.{calls, call_inside}
 use Rattle.hum_parse.proofs.Fewer.{fewer}
 use Rattle.hum_parse.proofs.Inside.{inside_calls}
 use Rattle.hum_parse.proofs.grammar.Grammar.+calls.Goals as goal

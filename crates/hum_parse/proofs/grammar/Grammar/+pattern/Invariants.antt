@@ -1,4 +1,4 @@
-use Rattle.std.proofs.Common.{◌≡◌, ℕ, ◌+◌, ◌-◌, ◌*◌, [], ◌∷◌, length}
+use Rattle.std.proofs.Common.{◌≡◌, ◌+◌, ◌-◌, ◌*◌, [], ◌∷◌, length}
 use Rattle.hum_parse.specs.Rules.{inner_at, pats_from}
 use Rattle.hum_parse.proofs.grammar.Grammar.+pattern.Given as goal
 
