@@ -25,7 +25,8 @@ tree_of xs formed = record { statements = xs; formed = formed }
 pub same_tree : (a b : Tree) → a.statements ≡ b.statements → a ≡ b
 same_tree a b e =
     let one : (formed : FormedList b.statements) → a ≡ tree_of b.statements formed =
-    subst (λ xs. (formed : FormedList xs) → a ≡ tree_of xs formed) e (λ formed. ap (tree_of a.statements) (Bool-set (are_formed a.statements) true a.formed formed)) in
+    subst (λ xs. (formed : FormedList xs) → a ≡ tree_of xs formed) e
+    (λ formed. ap (tree_of a.statements) (Bool-set (are_formed a.statements) true a.formed formed)) in
     one b.formed
 
 same_head : (ts : Kinds) → SameHead ts ts
@@ -46,7 +47,8 @@ thin ts at r = record {
   no_tree = λ xs h. r.no_tree xs (whole ts xs h);
 }
 
-stopped : (ts rest : Kinds) (o : Outcome (List Stmt)) → Answers Whole all_on ts o → o ≡ Err rest → RefusedAt (IsStmts deepest) ts (length ts - length rest)
+stopped : (ts rest : Kinds) (o : Outcome (List Stmt)) → Answers Whole all_on ts o → o ≡ Err rest → RefusedAt (IsStmts deepest) ts
+    (length ts - length rest)
 stopped ts rest (Ok p) w e = cc
 stopped ts rest (Err r) w e =
     let same : r ≡ rest = cc in
@@ -58,7 +60,8 @@ stopped ts rest (Err r) w e =
 pub refused_whole : (ts rest : Kinds) → program deepest ts ≡ Err rest → RefusedAt (IsStmts deepest) ts (length ts - length rest)
 refused_whole ts rest e = stopped ts rest (program deepest ts) (exact_program 198 ts) e
 
-only_at : (ts : Kinds) (xs : List Stmt) (o : Outcome (List Stmt)) → Answers Whole all_on ts o → IsStmts deepest ts xs → (rest : Kinds) × (o ≡ Ok (xs, rest))
+only_at : (ts : Kinds) (xs : List Stmt) (o : Outcome (List Stmt)) → Answers Whole all_on ts o → IsStmts deepest ts xs
+    → (rest : Kinds) × (o ≡ Ok (xs, rest))
 only_at ts xs (Ok p) w h =
     let all : w.front ++ p.1 ≡ ts ++ [] = sym w.split ∙ sym (append-nil ts) in
     let one : (ts ≡ w.front) × (p.0 ≡ xs) = w.unique p.1 ts [] xs (same_head p.1) all (whole ts xs h) tt in
@@ -86,11 +89,13 @@ ends_at n turns found [] xs rest e = (left_of xs found rest [] (Ok (found, [])) 
 ends_at n zero found (t ∷ ts) xs rest e = cc
 ends_at n (suc turns) found (t ∷ ts) xs rest e = go (stmt n (inner_at n) (t ∷ ts)) e (λ x us d. ends_at n turns (found ++ x ∷ []) us xs rest d)
   where
-    go : (o : Outcome Stmt) → and_then o (λ x. program_from n turns (found ++ x ∷ [])) ≡ Ok (xs, rest) → ((x : Stmt) (us : Kinds) → program_from n turns (found ++ x ∷ []) us ≡ Ok (xs, rest) → rest ≡ []) → rest ≡ []
+    go : (o : Outcome Stmt) → and_then o (λ x. program_from n turns (found ++ x ∷ [])) ≡ Ok (xs, rest)
+        → ((x : Stmt) (us : Kinds) → program_from n turns (found ++ x ∷ []) us ≡ Ok (xs, rest) → rest ≡ []) → rest ≡ []
     go (Ok p) d f = f p.0 p.1 d
     go (Err r) d f = cc
 
-found_at : (ts : Kinds) (xs : List Stmt) (rest : Kinds) (o : Outcome (List Stmt)) → Answers Whole all_on ts o → o ≡ Ok (xs, rest) → rest ≡ [] → IsStmts deepest ts xs
+found_at : (ts : Kinds) (xs : List Stmt) (rest : Kinds) (o : Outcome (List Stmt)) → Answers Whole all_on ts o → o ≡ Ok (xs, rest)
+    → rest ≡ [] → IsStmts deepest ts xs
 found_at ts xs rest (Ok p) w e none =
     let parts = left_of p.0 xs p.1 rest (Ok p) refl e in
     let one : p.0 ≡ xs = parts.0 in
@@ -114,7 +119,8 @@ shorter_at ts rest (Err r) w e =
 pub shorter_whole : (ts rest : Kinds) → program deepest ts ≡ Err rest → length rest ≤ length ts
 shorter_whole ts rest e = shorter_at ts rest (program deepest ts) (exact_program 198 ts) e
 
-pub only_tree : (ts : Kinds) (tree : Tree) (rest : Kinds) → program deepest ts ≡ Ok (tree.statements, rest) → (other : Tree) → Spells ts other → tree ≡ other
+pub only_tree : (ts : Kinds) (tree : Tree) (rest : Kinds) → program deepest ts ≡ Ok (tree.statements, rest) → (other : Tree)
+    → Spells ts other → tree ≡ other
 only_tree ts tree rest e other h =
     let r = only_whole ts other.statements h in
     same_tree tree other (left_of tree.statements other.statements rest r.0 (program deepest ts) e r.1).0

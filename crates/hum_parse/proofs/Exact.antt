@@ -112,7 +112,8 @@ module _ {A B : Type 0} (R : Language A) (r : TokenKind → Bool) (S : A → Lan
         (sym (append_assoc w.front s.front more) ∙ e ∙ ap (λ z. z ++ v) t.split ∙ append_assoc t.left t.right v)
         t.is_left (follows t.first t.right v b t.is_right f) in
         let here : s.front ++ more ≡ t.right ++ v = cancel w.front (s.front ++ more) (t.right ++ v)
-        (sym (append_assoc w.front s.front more) ∙ e ∙ ap (λ z. z ++ v) t.split ∙ append_assoc t.left t.right v ∙ ap (λ z. z ++ (t.right ++ v)) parts.0) in
+        (sym (append_assoc w.front s.front more) ∙ e ∙ ap (λ z. z ++ v) t.split ∙ append_assoc t.left t.right v
+        ∙ ap (λ z. z ++ (t.right ++ v)) parts.0) in
         let rests : (t.right ≡ s.front) × (p.0 ≡ b) = s.unique more t.right v b same here (subst (λ z. S z t.right b) (sym parts.1) t.is_right) f in
         (t.split ∙ ap (λ z. z ++ t.right) parts.0 ∙ ap (λ z. w.front ++ z) rests.0, rests.1);
   }
@@ -122,14 +123,23 @@ module _ {A B : Type 0} (R : Language A) (r : TokenKind → Bool) (S : A → Lan
     tail = s.tail;
     carried = s.carried;
     tree = s.tree;
-    begins = record { left = w.front; right = s.front ++ s.tail; split = append_assoc w.front s.front s.tail; first = a; is_left = w.spelled; is_right = s.begins };
+    begins = record {
+      left = w.front;
+      right = s.front ++ s.tail;
+      split = append_assoc w.front s.front s.tail;
+      first = a;
+      is_left =
+          w.spelled;
+      is_right = s.begins;
+    };
     dead = λ more u v b same e t f.
         let parts : (t.left ≡ w.front) × (a ≡ t.first) = w.unique (s.front ++ more) t.left (t.right ++ v) t.first
         (subst (λ z. SameHead z (s.front ++ more)) (sym s.split) (same_behind s.front left more same))
         (sym (append_assoc w.front s.front more) ∙ e ∙ ap (λ z. z ++ v) t.split ∙ append_assoc t.left t.right v)
         t.is_left (follows t.first t.right v b t.is_right f) in
         let here : s.front ++ more ≡ t.right ++ v = cancel w.front (s.front ++ more) (t.right ++ v)
-        (sym (append_assoc w.front s.front more) ∙ e ∙ ap (λ z. z ++ v) t.split ∙ append_assoc t.left t.right v ∙ ap (λ z. z ++ (t.right ++ v)) parts.0) in
+        (sym (append_assoc w.front s.front more) ∙ e ∙ ap (λ z. z ++ v) t.split ∙ append_assoc t.left t.right v
+        ∙ ap (λ z. z ++ (t.right ++ v)) parts.0) in
         s.dead more t.right v b same here (subst (λ z. S z t.right b) (sym parts.1) t.is_right) f;
   }
 
@@ -176,7 +186,8 @@ module _ {A B : Type 0} (R : Language A) (r : TokenKind → Bool) (S : A → Lan
 
     some_at : (m : ℕ) (q : A → Parser B) → ((a : A) → Exact (suc m) (S a) g (q a))
         → (ts : Kinds) → length ts < suc (suc m) → (o : Outcome A) → Answers R r ts o → Answers (Then R S) g ts (and_then o q)
-    some_at m q xs ts h (Ok p) w = after_found ts p.1 p.0 w (q p.0 p.1) (xs p.0 p.1 (fewer ts w.front p.1 (suc m) (sized w.front p.0 w.spelled) w.split h))
+    some_at m q xs ts h (Ok p) w =
+        after_found ts p.1 p.0 w (q p.0 p.1) (xs p.0 p.1 (fewer ts w.front p.1 (suc m) (sized w.front p.0 w.spelled) w.split h))
     some_at m q xs ts h (Err rest) w = after_stopped ts rest w (λ a. completed m (S a) g (q a) (xs a))
 
     pub exact_some : (m : ℕ) (p : Parser A) (q : A → Parser B) → Exact (suc (suc m)) R r p → ((a : A) → Exact (suc m) (S a) g (q a))

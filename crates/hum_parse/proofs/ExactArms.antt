@@ -32,12 +32,19 @@ arms_same : (n : ℕ) → Same (ArmsTail n) (ArmsEnd n)
 arms_same n = record { to = to; from = from }
   where
     -- all arms behind one that was read
-    gather : (found : List Arm) (v : Kinds) (all : List Arm) → Until mark.End (IsArm n) found v all → (x : Arm) (u : Kinds) → (xs : List Arm) → xs ++ x ∷ [] ≡ found → IsArm n u x
+    gather : (found : List Arm) (v : Kinds) (all : List Arm) → Until mark.End (IsArm n) found v all → (x : Arm) (u : Kinds) → (xs : List Arm)
+        → xs ++ x ∷ [] ≡ found → IsArm n u x
         → (rest : List Arm) × (ws : Kinds) × (xs ++ rest ≡ all) × (v ≡ ws ++ k.Keyword w.KwEnd ∷ []) × IsArms n (u ++ ws) rest
     gather found v all until_end x u xs e y = (x ∷ [], [], e, refl, subst (λ z. IsArms n z (x ∷ [])) (sym (append-nil u)) (G.arms_last y))
     gather found v all (until_more {us = us} {vs = vs} {a = a} l t) x u xs e y =
-        let r = gather (found ++ a ∷ []) vs all t a us (xs ++ x ∷ []) (ap (λ z. z ++ a ∷ []) e) l in
-        (x ∷ r.0, us ++ r.1, sym (append_assoc xs (x ∷ []) r.0) ∙ r.2, ap (λ z. us ++ z) r.3 ∙ sym (append_assoc us r.1 (k.Keyword w.KwEnd ∷ [])), G.arms_more y r.4)
+        let r = gather (found ++ a ∷ []) vs all t a us (xs ++ x ∷ []) (ap (λ z. z ++ a ∷ []) e) l in (
+          x ∷ r.0,
+          us ++ r.1,
+          sym (append_assoc xs (x ∷ []) r.0) ∙ r.2,
+          ap (λ z. us ++ z) r.3
+              ∙ sym (append_assoc us r.1 (k.Keyword w.KwEnd ∷ [])),
+          G.arms_more y r.4,
+        )
 
     to : (u : Kinds) (b : List Arm) → ArmsTail n u b → ArmsEnd n u b
     to u b y =
@@ -51,13 +58,17 @@ arms_same n = record { to = to; from = from }
           is_right = closes mark.End b;
         }
 
-    spread : (found : List Arm) (u : Kinds) (xs : List Arm) → IsArms n u xs → (all : List Arm) → found ++ xs ≡ all → Until mark.End (IsArm n) found (u ++ k.Keyword w.KwEnd ∷ []) all
-    spread found u xs (G.arms_last {x = x} y) all e = until_more y (subst (λ z. Until mark.End (IsArm n) (found ++ x ∷ []) (k.Keyword w.KwEnd ∷ []) z) e until_end)
+    spread : (found : List Arm) (u : Kinds) (xs : List Arm) → IsArms n u xs → (all : List Arm) → found ++ xs ≡ all → Until mark.End (IsArm n) found
+        (u ++ k.Keyword w.KwEnd ∷ []) all
+    spread found u xs (G.arms_last {x = x} y) all e =
+        until_more y (subst (λ z. Until mark.End (IsArm n) (found ++ x ∷ []) (k.Keyword w.KwEnd ∷ []) z) e until_end)
     spread found u xs (G.arms_more {us = us} {vs = vs} {x = x} {xs = ys} y ys') all e =
-        subst (λ z. Until mark.End (IsArm n) found z all) (sym (append_assoc us vs (k.Keyword w.KwEnd ∷ []))) (until_more y (spread (found ++ x ∷ []) vs ys ys' all (append_assoc found (x ∷ []) ys ∙ e)))
+        subst (λ z. Until mark.End (IsArm n) found z all) (sym (append_assoc us vs (k.Keyword w.KwEnd ∷ [])))
+        (until_more y (spread (found ++ x ∷ []) vs ys ys' all (append_assoc found (x ∷ []) ys ∙ e)))
 
     first_of_all : (u : Kinds) (xs : List Arm) → IsArms n u xs → ArmsTail n (u ++ k.Keyword w.KwEnd ∷ []) xs
-    first_of_all u xs (G.arms_last {x = x} y) = record { left = u; right = k.Keyword w.KwEnd ∷ []; split = refl; first = x; is_left = y; is_right = until_end }
+    first_of_all u xs (G.arms_last {x = x} y) =
+        record { left = u; right = k.Keyword w.KwEnd ∷ []; split = refl; first = x; is_left = y; is_right = until_end }
     first_of_all u xs (G.arms_more {us = us} {vs = vs} {x = x} {xs = ys} y ys') = record {
       left = us;
       right = vs ++ k.Keyword w.KwEnd ∷ [];
@@ -70,17 +81,20 @@ arms_same n = record { to = to; from = from }
     from : (u : Kinds) (b : List Arm) → ArmsEnd n u b → ArmsTail n u b
     from u b y =
         let ends : (y.right ≡ k.Keyword w.KwEnd ∷ []) × (y.first ≡ b) = close_is mark.End y.first y.right b y.is_right in
-        subst (λ z. ArmsTail n z b) (sym (y.split ∙ ap (λ z. y.left ++ z) ends.0)) (subst (ArmsTail n (y.left ++ k.Keyword w.KwEnd ∷ [])) ends.1 (first_of_all y.left y.first y.is_left))
+        subst (λ z. ArmsTail n z b) (sym (y.split ∙ ap (λ z. y.left ++ z) ends.0))
+        (subst (ArmsTail n (y.left ++ k.Keyword w.KwEnd ∷ [])) ends.1 (first_of_all y.left y.first y.is_left))
 
 pub exact_arms : (n : ℕ) (inner : Inner) → Below n inner → (g : TokenKind → Bool) (m : ℕ) → Exact m (ArmsEnd (suc n)) g (arms (suc n) inner)
 unfolding arms
 exact_arms n inner below g m ts h =
     along (ArmsTail (suc n)) (ArmsEnd (suc n)) g ts (arms (suc n) inner ts) (arms_same (suc n))
     (exact_then (IsArm (suc n)) goes_on (λ x. Until mark.End (IsArm (suc n)) (x ∷ [])) g
-    (λ x y v b t f. until_avoids mark.End (IsArm (suc n)) begins_pterm goes_on (arm_begins (suc n)) refl pterm_goes refl (x ∷ []) y v b t) (length ts) (arm_rule (suc n) inner)
+    (λ x y v b t f. until_avoids mark.End (IsArm (suc n)) begins_pterm goes_on (arm_begins (suc n)) refl pterm_goes refl (x ∷ []) y v b t) (length ts)
+    (arm_rule (suc n) inner)
     (λ x us. until_from mark.End (arm_rule (suc n) inner) (length us) (x ∷ []) us)
     (exact_arm n inner below (length ts))
-    (λ x us l. exact_until mark.End (IsArm (suc n)) begins_pterm goes_on (arm_begins (suc n)) refl pterm_goes refl g (arm_rule (suc n) inner) arm_at (length us) (x ∷ []) us (omega arith)) ts (omega arith))
+    (λ x us l. exact_until mark.End (IsArm (suc n)) begins_pterm goes_on (arm_begins (suc n)) refl pterm_goes refl g (arm_rule (suc n) inner) arm_at
+    (length us) (x ∷ []) us (omega arith)) ts (omega arith))
   where
     arm_at : (m : ℕ) → Exact m (IsArm (suc n)) goes_on (arm_rule (suc n) inner)
     arm_at m us l = exact_arm n inner below (length us) us (omega arith)

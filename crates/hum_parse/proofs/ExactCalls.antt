@@ -27,7 +27,8 @@ calls_same n f = record { to = to; from = from n }
   where
     rest : (n : ℕ) (u : Kinds) (b : Expr) → CallRest n f u b → IsCalls (suc (suc n)) f (k.CallParen ∷ u) b
     rest n u b y =
-        let all : u ≡ y.left ++ k.ParenRight ∷ y.is_right.right = y.split ∙ ap (λ z. y.left ++ z) (word_is mark.ParenRight (IsCalls (suc n) (e.Call f y.first)) y.right b y.is_right) in
+        let all : u ≡ y.left ++ k.ParenRight ∷ y.is_right.right =
+        y.split ∙ ap (λ z. y.left ++ z) (word_is mark.ParenRight (IsCalls (suc n) (e.Call f y.first)) y.right b y.is_right) in
         subst (λ z. IsCalls (suc (suc n)) f (k.CallParen ∷ z) b) (sym all) (G.calls_call y.is_left y.is_right.is_right)
 
     behind : (n : ℕ) (u : Kinds) (b : Expr) → CallTail n f u b → IsCalls (suc n) f (k.CallParen ∷ u) b
@@ -53,7 +54,8 @@ calls_same n f = record { to = to; from = from n }
 rest_begins : (n : ℕ) (f : Expr) (u : Kinds) (b : Expr) → CallRest n f u b → Begins begins_expr u
 rest_begins n f u b y = subst (Begins begins_expr) (sym y.split) (begins_more begins_expr y.left y.right (expr_begins y.is_left))
 
-exact_call_inside : (n : ℕ) (inner : Inner) → Below n inner → (f : Expr) (m : ℕ) → Exact (suc m) (CallRest n f) goes_term (call_inside (suc n) inner f)
+exact_call_inside : (n : ℕ) (inner : Inner) → Below n inner → (f : Expr) (m : ℕ) → Exact (suc m) (CallRest n f) goes_term
+    (call_inside (suc n) inner f)
 unfolding call_inside
 exact_call_inside n inner below f m =
     exact_then (IsExpr n) goes_on (λ x. Then (Word mark.ParenRight) (λ _. IsCalls (suc n) (e.Call f x))) goes_term
@@ -67,7 +69,8 @@ open_tail (suc n) inner f = either mark.ParenRight (inner.calls (e.Call f e.Nil)
 
 exact_tail : (n : ℕ) (inner : Inner) → Levels n inner → (f : Expr) (m : ℕ) → Exact (suc m) (CallTail n f) goes_term (open_tail n inner f)
 exact_tail zero inner below f m ts h =
-    along (Then (Word mark.ParenRight) (λ _. IsCalls 0 (e.Call f e.Nil))) (CallTail 0 f) goes_term ts (open_tail 0 inner f ts) (record { to = to; from = from })
+    along (Then (Word mark.ParenRight) (λ _. IsCalls 0 (e.Call f e.Nil))) (CallTail 0 f) goes_term ts (open_tail 0 inner f ts)
+    (record { to = to; from = from })
     (exact_only mark.ParenRight (IsCalls 0 (e.Call f e.Nil)) goes_term m (inner.calls (e.Call f e.Nil)) (below (e.Call f e.Nil) (suc m)) ts h)
   where
     to : (u : Kinds) (b : Expr) → Then (Word mark.ParenRight) (λ _. IsCalls 0 (e.Call f e.Nil)) u b → CallTail 0 f u b
@@ -76,11 +79,14 @@ exact_tail zero inner below f m ts h =
     from : (u : Kinds) (b : Expr) → CallTail 0 f u b → Then (Word mark.ParenRight) (λ _. IsCalls 0 (e.Call f e.Nil)) u b
     from u b (tail_unit {u = us} y) = worded mark.ParenRight (IsCalls 0 (e.Call f e.Nil)) us b y
 exact_tail (suc n) inner below f m ts h =
-    exact_branch mark.ParenRight (IsCalls (suc n) (e.Call f e.Nil)) (CallRest n f) (CallTail (suc n) f) goes_term (λ u b y. tail_call y) (λ u b y. tail_unit y) from
-    (λ b y off. rest_begins n f [] b y) (λ u b y c. apart_right u (rest_begins n f u b y) c) m (inner.calls (e.Call f e.Nil)) (call_inside (suc n) inner f)
+    exact_branch mark.ParenRight (IsCalls (suc n) (e.Call f e.Nil)) (CallRest n f) (CallTail (suc n) f) goes_term (λ u b y. tail_call y)
+    (λ u b y. tail_unit y) from
+    (λ b y off. rest_begins n f [] b y) (λ u b y c. apart_right u (rest_begins n f u b y) c) m (inner.calls (e.Call f e.Nil))
+    (call_inside (suc n) inner f)
     (below.calls (e.Call f e.Nil) m) (exact_call_inside n inner below f m) ts h
   where
-    from : (u : Kinds) (b : Expr) → CallTail (suc n) f u b → CallRest n f u b ⊎ Then (Word mark.ParenRight) (λ _. IsCalls (suc n) (e.Call f e.Nil)) u b
+    from : (u : Kinds) (b : Expr) → CallTail (suc n) f u b → CallRest n f u b ⊎ Then (Word mark.ParenRight)
+        (λ _. IsCalls (suc n) (e.Call f e.Nil)) u b
     from u b (tail_unit {u = us} y) = inr (worded mark.ParenRight (IsCalls (suc n) (e.Call f e.Nil)) us b y)
     from u b (tail_call y) = inl y
 
@@ -91,9 +97,11 @@ calls_is (suc n) inner f ts = rw not_last refl
 
 pub exact_calls : (n : ℕ) (inner : Inner) → Levels n inner → (f : Expr) (m : ℕ) → Exact (suc m) (IsCalls (suc n) f) goes_term (calls n inner f)
 exact_calls n inner below f zero [] h = subst (Answers (IsCalls (suc n) f) goes_term []) (sym (calls_is n inner f []))
-    (along (Or mark.CallParen f (CallTail n f)) (IsCalls (suc n) f) goes_term [] (either mark.CallParen (open_tail n inner f) (pure f) []) (calls_same n f)
+    (along (Or mark.CallParen f (CallTail n f)) (IsCalls (suc n) f) goes_term []
+    (either mark.CallParen (open_tail n inner f) (pure f) []) (calls_same n f)
     (exact_or mark.CallParen f (CallTail n f) goes_term refl 1 (open_tail n inner f) (exact_tail n inner below f 0) [] (omega arith)))
 exact_calls n inner below f zero (t ∷ ts) h = absurd (omega arith)
 exact_calls n inner below f (suc m) ts h = subst (Answers (IsCalls (suc n) f) goes_term ts) (sym (calls_is n inner f ts))
-    (along (Or mark.CallParen f (CallTail n f)) (IsCalls (suc n) f) goes_term ts (either mark.CallParen (open_tail n inner f) (pure f) ts) (calls_same n f)
+    (along (Or mark.CallParen f (CallTail n f)) (IsCalls (suc n) f) goes_term ts
+    (either mark.CallParen (open_tail n inner f) (pure f) ts) (calls_same n f)
     (exact_or mark.CallParen f (CallTail n f) goes_term refl (suc m) (open_tail n inner f) (exact_tail n inner below f m) ts h))

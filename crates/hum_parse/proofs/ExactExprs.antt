@@ -50,14 +50,17 @@ abs_made : (n : ℕ) (u : Kinds) (a : Expr) → AbsTail n u a → IsItems (suc n
 abs_made n u a y =
     let z = y.is_right.is_right in
     let body : y.is_right.right ≡ z.left = pure_split (e.Abs y.first z.first) z.left y.is_right.right z.right a z.split z.is_right in
-    let all : u ≡ y.left ++ k.Dot ∷ z.left = y.split ∙ ap (λ s. y.left ++ s) (word_is mark.Dot (Then (IsExpr n) (λ c. Pure (e.Abs y.first c))) y.right a y.is_right ∙ ap (λ s. k.Dot ∷ s) body) in
+    let all : u ≡ y.left ++ k.Dot ∷ z.left =
+    y.split ∙ ap (λ s. y.left ++ s) (word_is mark.Dot (Then (IsExpr n) (λ c. Pure (e.Abs y.first c))) y.right a y.is_right
+    ∙ ap (λ s. k.Dot ∷ s) body) in
     subst (λ s. IsItems (suc n) (k.Backslash ∷ s) (a ∷ [])) (sym all)
     (subst (λ s. IsItems (suc n) (k.Backslash ∷ (y.left ++ k.Dot ∷ z.left)) (s ∷ [])) z.is_right.same (G.item_abs y.is_left z.is_left))
 
 items_to : (n : ℕ) (found : List Expr) (u : Kinds) (b : List Expr) → ItemsTail n found u b → Behind found (IsItems n) u b
 items_to n found u b y = subst (λ z. Behind found (IsItems n) z b) (sym y.split) (joined y.left y.right y.first b y.is_left y.is_right)
   where
-    joined : (left right : Kinds) (x : Expr) (b : List Expr) → IsTerm n left x → Or mark.Comma (found ++ x ∷ []) (Behind (found ++ x ∷ []) (IsItems n)) right b → Behind found (IsItems n) (left ++ right) b
+    joined : (left right : Kinds) (x : Expr) (b : List Expr) → IsTerm n left x → Or mark.Comma (found ++ x ∷ [])
+        (Behind (found ++ x ∷ []) (IsItems n)) right b → Behind found (IsItems n) (left ++ right) b
     joined left right x b p (inl y) = record {
       more = x ∷ [];
       is = y.same;
@@ -66,26 +69,36 @@ items_to n found u b y = subst (λ z. Behind found (IsItems n) z b) (sym y.split
     joined left right x b p (inr y) = record {
       more = x ∷ y.is_right.more;
       is = sym (append_assoc found (x ∷ []) y.is_right.more) ∙ y.is_right.is;
-      spelled = subst (λ z. IsItems n (left ++ z) (x ∷ y.is_right.more)) (sym (y.split ∙ ap (λ z. z ++ y.right) y.is_left)) (G.item_comma p y.is_right.spelled);
+      spelled = subst (λ z. IsItems n (left ++ z) (x ∷ y.is_right.more)) (sym (y.split ∙ ap (λ z. z ++ y.right) y.is_left))
+          (G.item_comma p y.is_right.spelled);
     }
 
-items_from_term : (n : ℕ) (found : List Expr) (u : Kinds) (b : List Expr) → Behind found (IsItems n) u b → ItemsTail n found u b ⊎ Begins is_backslash u
+items_from_term : (n : ℕ) (found : List Expr) (u : Kinds) (b : List Expr) → Behind found (IsItems n) u b → ItemsTail n found u
+    b ⊎ Begins is_backslash u
 items_from_term n found u b y = parted n u y.more b y.spelled y.is
   where
     parted : (n : ℕ) (u : Kinds) (xs b : List Expr) → IsItems n u xs → found ++ xs ≡ b → ItemsTail n found u b ⊎ Begins is_backslash u
     parted n u xs b (G.item_abs x a) e = inr refl
-    parted n u xs b (G.item_last p) e = inl (record { left = u; right = []; split = sym (append-nil u); first = _; is_left = p; is_right = inl (record { none = refl; same = e }) })
+    parted n u xs b (G.item_last p) e =
+        inl (record { left = u; right = []; split = sym (append-nil u); first = _; is_left = p; is_right = inl (record { none = refl; same = e }) })
     parted n u xs b (G.item_comma {us = us} {vs = vs} {a = x} {xs = ys} p ps) e = inl (record {
       left = us;
       right = k.Comma ∷ vs;
       split = refl;
       first = x;
       is_left = p;
-      is_right = inr (worded mark.Comma (Behind (found ++ x ∷ []) (IsItems n)) vs b (record { more = ys; is = append_assoc found (x ∷ []) ys ∙ e; spelled = ps }));
+      is_right = inr (worded mark.Comma (Behind (found ++ x ∷ []) (IsItems n)) vs b
+          (record { more = ys; is = append_assoc found (x ∷ []) ys ∙ e; spelled = ps }));
     })
 
 items_ends : (n : ℕ) (found : List Expr) → Ends (Behind found (IsItems n))
-items_ends n found = record { tail = k.Undefined ∷ []; carried = refl; tree = found ++ e.Undef ∷ []; ends = record { more = e.Undef ∷ []; is = refl; spelled = G.item_last (G.chain G.undef G.calls_done) } }
+items_ends n found = record {
+  tail = k.Undefined ∷ [];
+  carried = refl;
+  tree = found ++ e.Undef ∷ [];
+  ends =
+      record { more = e.Undef ∷ []; is = refl; spelled = G.item_last (G.chain G.undef G.calls_done) };
+}
 
 by_not_abs : {n : ℕ} {t : TokenKind} {us : Kinds} {b : Expr} → TermBy n t us b → is_backslash t ≡ false
 by_not_abs (by.by_number c) = refl
@@ -116,7 +129,8 @@ abbrev AbsAt : ℕ → List Expr → Language (List Expr)
 AbsAt zero found u b = ⊥
 AbsAt (suc n) found u b = AbsItems n found u b
 
-abs_from : (n : ℕ) (found : List Expr) (ts : Kinds) (xs b : List Expr) → IsItems n ts xs → found ++ xs ≡ b → (u : Kinds) → ts ≡ k.Backslash ∷ u → AbsAt n found u b
+abs_from : (n : ℕ) (found : List Expr) (ts : Kinds) (xs b : List Expr) → IsItems n ts xs → found ++ xs ≡ b → (u : Kinds)
+    → ts ≡ k.Backslash ∷ u → AbsAt n found u b
 abs_from n found ts xs b (G.item_abs {n = m} {us = us} {vs = vs} {x = x} {a = a} q y) same u d =
     let tails : us ++ k.Dot ∷ vs ≡ u = cc in
     subst (λ z. AbsItems m found z b) tails (subst (λ z. AbsItems m found (us ++ k.Dot ∷ vs) z) same
@@ -133,7 +147,8 @@ abs_from n found ts xs b (G.item_comma {us = us} {vs = vs} y ys) same u d = absu
 
 abs_same : (n : ℕ) (found : List Expr) → Same (AbsItems n found) (λ us. Behind found (IsItems (suc n)) (k.Backslash ∷ us))
 abs_same n found = record {
-  to = unpured (AbsTail n) (λ a. found ++ a ∷ []) (λ us. Behind found (IsItems (suc n)) (k.Backslash ∷ us)) (λ u a y. record { more = a ∷ []; is = refl; spelled = abs_made n u a y });
+  to = unpured (AbsTail n) (λ a. found ++ a ∷ []) (λ us. Behind found (IsItems (suc n)) (k.Backslash ∷ us))
+      (λ u a y. record { more = a ∷ []; is = refl; spelled = abs_made n u a y });
   from = λ u b y. abs_from (suc n) found (k.Backslash ∷ u) y.more b y.spelled y.is u refl;
 }
 
@@ -142,29 +157,38 @@ items_empty b y = items_begins y.spelled
 
 term_step : (n : ℕ) (inner : Inner) → Levels n inner → (turns : ℕ) (found : List Expr)
     → ((a : Expr) → Exact (suc turns) (Behind (found ++ a ∷ []) (IsItems n)) goes_on (items_from n inner turns (found ++ a ∷ [])))
-    → Exact (suc (suc turns)) (ItemsTail n found) goes_on (λ ts. and_then (term n inner ts) (λ a. either mark.Comma (items_from n inner turns (found ++ a ∷ [])) (pure (found ++ a ∷ []))))
+    → Exact (suc (suc turns)) (ItemsTail n found) goes_on
+    (λ ts. and_then (term n inner ts) (λ a. either mark.Comma (items_from n inner turns (found ++ a ∷ [])) (pure (found ++ a ∷ []))))
 term_step n inner below turns found more =
     exact_then (IsTerm n) goes_term (λ a. Or mark.Comma (found ++ a ∷ []) (Behind (found ++ a ∷ []) (IsItems n))) goes_on
     (λ a y v b t f. or_follows (found ++ a ∷ []) (Behind (found ++ a ∷ []) (IsItems n)) y v b t f) (suc turns) (term n inner)
     (λ a. either mark.Comma (items_from n inner turns (found ++ a ∷ [])) (pure (found ++ a ∷ [])))
     (exact_term n inner below (suc (suc turns)))
-    (λ a. exact_or mark.Comma (found ++ a ∷ []) (Behind (found ++ a ∷ []) (IsItems n)) goes_on refl (suc turns) (items_from n inner turns (found ++ a ∷ [])) (more a))
+    (λ a. exact_or mark.Comma (found ++ a ∷ []) (Behind (found ++ a ∷ []) (IsItems n)) goes_on refl (suc turns)
+    (items_from n inner turns (found ++ a ∷ [])) (more a))
 
-exact_items_from : (n : ℕ) (inner : Inner) → Levels n inner → (turns : ℕ) (found : List Expr) → Exact (suc turns) (Behind found (IsItems n)) goes_on (items_from n inner turns found)
+exact_items_from : (n : ℕ) (inner : Inner) → Levels n inner → (turns : ℕ) (found : List Expr) → Exact (suc turns) (Behind found (IsItems n)) goes_on
+    (items_from n inner turns found)
 unfolding items_from
 exact_items_from n inner below zero found [] h = at_end (Behind found (IsItems n)) goes_on (items_ends n found) items_empty
 exact_items_from n inner below zero found (t ∷ ts) h = absurd (omega arith)
 exact_items_from zero inner below (suc turns) found (k.Backslash ∷ ts) h =
-    no_way (Behind found (IsItems 0)) goes_on k.Backslash ts (items_ends 0 found) items_empty (λ u b y. abs_from 0 found (k.Backslash ∷ u) y.more b y.spelled y.is u refl)
+    no_way (Behind found (IsItems 0)) goes_on k.Backslash ts (items_ends 0 found) items_empty
+    (λ u b y. abs_from 0 found (k.Backslash ∷ u) y.more b y.spelled y.is u refl)
 exact_items_from (suc n) inner below (suc turns) found (k.Backslash ∷ ts) h =
-    rw not_last (took (Behind found (IsItems (suc n))) goes_on k.Backslash ts (and_then (abs_inside (suc n) inner ts) (λ a. pure (found ++ a ∷ []))) (λ b y off. items_empty b y)
-    (along (AbsItems n found) (λ us. Behind found (IsItems (suc n)) (k.Backslash ∷ us)) goes_on ts (and_then (abs_inside (suc n) inner ts) (λ a. pure (found ++ a ∷ []))) (abs_same n found)
-    (exact_made (AbsTail n) goes_on (λ a. found ++ a ∷ []) (length ts) (abs_inside (suc n) inner) (exact_abs n inner below (length ts)) ts (omega arith))))
+    rw not_last (took (Behind found (IsItems (suc n))) goes_on k.Backslash ts (and_then (abs_inside (suc n) inner ts) (λ a. pure (found ++ a ∷ [])))
+    (λ b y off. items_empty b y)
+    (along (AbsItems n found) (λ us. Behind found (IsItems (suc n)) (k.Backslash ∷ us)) goes_on ts
+    (and_then (abs_inside (suc n) inner ts) (λ a. pure (found ++ a ∷ []))) (abs_same n found)
+    (exact_made (AbsTail n) goes_on (λ a. found ++ a ∷ []) (length ts) (abs_inside (suc n) inner)
+    (exact_abs n inner below (length ts)) ts (omega arith))))
 exact_items_from n inner below (suc turns) found [] h =
-    narrowed is_backslash (ItemsTail n found) (Behind found (IsItems n)) goes_on [] (items_from n inner (suc turns) found []) (items_to n found) (items_from_term n found) tt
+    narrowed is_backslash (ItemsTail n found) (Behind found (IsItems n)) goes_on [] (items_from n inner (suc turns) found []) (items_to n found)
+    (items_from_term n found) tt
     (term_step n inner below turns found (λ a. exact_items_from n inner below turns (found ++ a ∷ [])) [] h)
 exact_items_from n inner below (suc turns) found (t ∷ ts) h =
-    narrowed is_backslash (ItemsTail n found) (Behind found (IsItems n)) goes_on (t ∷ ts) (items_from n inner (suc turns) found (t ∷ ts)) (items_to n found) (items_from_term n found) refl
+    narrowed is_backslash (ItemsTail n found) (Behind found (IsItems n)) goes_on (t ∷ ts) (items_from n inner (suc turns) found (t ∷ ts))
+    (items_to n found) (items_from_term n found) refl
     (term_step n inner below turns found (λ a. exact_items_from n inner below turns (found ++ a ∷ [])) (t ∷ ts) h)
 
 -- ---- an expression
@@ -185,13 +209,15 @@ expr_same n = record { to = unpured (Behind [] (IsItems n)) expr_of (IsExpr n) (
 
     from : (u : Kinds) (b : Expr) → IsExpr n u b → ExprOf n u b
     from u b (G.expr_only {a = a} h) = pured (Behind [] (IsItems n)) expr_of u (a ∷ []) (record { more = a ∷ []; is = refl; spelled = h })
-    from u b (G.expr_tuple {a = x} {b = y} {xs = xs} h) = pured (Behind [] (IsItems n)) expr_of u (x ∷ y ∷ xs) (record { more = x ∷ y ∷ xs; is = refl; spelled = h })
+    from u b (G.expr_tuple {a = x} {b = y} {xs = xs} h) =
+        pured (Behind [] (IsItems n)) expr_of u (x ∷ y ∷ xs) (record { more = x ∷ y ∷ xs; is = refl; spelled = h })
 
 pub exact_expr : (n : ℕ) (inner : Inner) → Levels n inner → (m : ℕ) → Exact m (IsExpr n) goes_on (expr n inner)
 unfolding expr
 exact_expr n inner below m ts h =
     along (ExprOf n) (IsExpr n) goes_on ts (expr n inner ts) (expr_same n)
-    (exact_made (Behind [] (IsItems n)) goes_on expr_of (length ts) (items_from n inner (length ts) []) (exact_items_from n inner below (length ts) []) ts (omega arith))
+    (exact_made (Behind [] (IsItems n)) goes_on expr_of (length ts) (items_from n inner (length ts) [])
+    (exact_items_from n inner below (length ts) []) ts (omega arith))
 
 -- ---- arms, with the END behind the last
 
@@ -206,8 +232,11 @@ arm_same n = record { to = to; from = from }
     to u b y =
         let z = y.is_right.is_right in
         let body : y.is_right.right ≡ z.left = pure_split (arm y.first z.first) z.left y.is_right.right z.right b z.split z.is_right in
-        let all : u ≡ y.left ++ k.Colon ∷ z.left = y.split ∙ ap (λ s. y.left ++ s) (word_is mark.Colon (Then (IsExpr n) (λ c. Pure (arm y.first c))) y.right b y.is_right ∙ ap (λ s. k.Colon ∷ s) body) in
-        subst (λ s. IsArm (suc n) s b) (sym all) (subst (λ s. IsArm (suc n) (y.left ++ k.Colon ∷ z.left) s) z.is_right.same (G.colon y.is_left z.is_left))
+        let all : u ≡ y.left ++ k.Colon ∷ z.left =
+        y.split ∙ ap (λ s. y.left ++ s) (word_is mark.Colon (Then (IsExpr n) (λ c. Pure (arm y.first c))) y.right b y.is_right
+        ∙ ap (λ s. k.Colon ∷ s) body) in
+        subst (λ s. IsArm (suc n) s b) (sym all)
+        (subst (λ s. IsArm (suc n) (y.left ++ k.Colon ∷ z.left) s) z.is_right.same (G.colon y.is_left z.is_left))
 
     from : (u : Kinds) (b : Arm) → IsArm (suc n) u b → ArmTail n u b
     from u b (G.colon {us = us} {vs = vs} {x = x} {a = a} q y) = record {

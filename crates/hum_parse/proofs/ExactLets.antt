@@ -25,7 +25,8 @@ use Rattle.hum_parse.proofs.Words.{expr_word}
 abbrev EqualsTail : ℕ → (Expr → Stmt) → Language Stmt
 EqualsTail n made = Then (Word mark.Equals) (λ _. Then (IsExpr n) (λ a. Pure (made a)))
 
-exact_equals : (n : ℕ) (inner : Inner) → Below n inner → (made : Expr → Stmt) (m : ℕ) → Exact (suc m) (EqualsTail n made) goes_on (equals (suc n) inner made)
+exact_equals : (n : ℕ) (inner : Inner) → Below n inner → (made : Expr → Stmt) (m : ℕ) → Exact (suc m) (EqualsTail n made) goes_on
+    (equals (suc n) inner made)
 unfolding equals
 exact_equals n inner below made m =
     exact_word mark.Equals (Then (IsExpr n) (λ a. Pure (made a))) goes_on m (λ us. and_then (inner.expr us) (λ a. pure (made a)))
@@ -55,13 +56,15 @@ ArgumentTail n f = Then (IsPat n) (λ x. Then (Word mark.ParenRight) (λ _. Equa
 abbrev FunctionTail : ℕ → List ℕ → Language Stmt
 FunctionTail n f u b = ArgumentTail n f u b ⊎ Then (Word mark.ParenRight) (λ _. EqualsTail n (of_function f p.Nil)) u b
 
-exact_inside : (n : ℕ) (inner : Inner) → Below n inner → (f : List ℕ) (m : ℕ) → Exact (suc m) (ArgumentTail n f) goes_on (function_inside (suc n) inner f)
+exact_inside : (n : ℕ) (inner : Inner) → Below n inner → (f : List ℕ) (m : ℕ) → Exact (suc m) (ArgumentTail n f) goes_on
+    (function_inside (suc n) inner f)
 unfolding function_inside function_value
 exact_inside n inner below f m =
     exact_then (IsPat n) goes_on (λ x. Then (Word mark.ParenRight) (λ _. EqualsTail n (of_function f x))) goes_on
     (λ x y v b t g. word_follows goes_on mark.ParenRight refl (EqualsTail n (of_function f x)) y v b t) m inner.pat
     (λ x us. and_then (expect mark.ParenRight us) (λ _. equals (suc n) inner (of_function f x))) (below.pat (suc m))
-    (λ x. exact_word mark.ParenRight (EqualsTail n (of_function f x)) goes_on m (equals (suc n) inner (of_function f x)) (exact_equals n inner below (of_function f x) m))
+    (λ x. exact_word mark.ParenRight (EqualsTail n (of_function f x)) goes_on m (equals (suc n) inner (of_function f x))
+    (exact_equals n inner below (of_function f x) m))
 
 argument_begins : (n : ℕ) (f : List ℕ) (u : Kinds) (b : Stmt) → ArgumentTail n f u b → Begins begins_pterm u
 argument_begins n f u b y = subst (Begins begins_pterm) (sym y.split) (begins_more begins_pterm y.left y.right (pat_begins y.is_left))
@@ -73,7 +76,8 @@ no_argument n f u b y c = one u (argument_begins n f u b y) c
     one [] h c = h
     one (t ∷ u) h c = let at : t ≡ k.ParenRight = is_stands mark.ParenRight t c in let no : false ≡ true = sym (ap begins_pterm at) ∙ h in cc
 
-exact_function : (n : ℕ) (inner : Inner) → Below n inner → (f : List ℕ) (m : ℕ) → Exact (suc (suc m)) (FunctionTail n f) goes_on (function (suc n) inner f)
+exact_function : (n : ℕ) (inner : Inner) → Below n inner → (f : List ℕ) (m : ℕ) → Exact (suc (suc m)) (FunctionTail n f) goes_on
+    (function (suc n) inner f)
 unfolding function function_value
 exact_function n inner below f m =
     exact_branch mark.ParenRight (EqualsTail n (of_function f p.Nil)) (ArgumentTail n f) (FunctionTail n f) goes_on (λ u b y. inl y)
@@ -107,7 +111,8 @@ value_begins n f u b y =
     let items = y.is_left in
     let equal = equals_is n (of_value y.first) y.right b y.is_right in
     let left : y.left ≡ items.left = pure_split _ items.left y.left items.right y.first items.split items.is_right in
-    subst (Begins is_value) (sym (y.split ∙ ap (λ z. z ++ y.right) left ∙ ap (λ z. items.left ++ z) equal.2)) (one items.left items.first equal.0 items.is_left)
+    subst (Begins is_value) (sym (y.split ∙ ap (λ z. z ++ y.right) left ∙ ap (λ z. items.left ++ z) equal.2))
+    (one items.left items.first equal.0 items.is_left)
   where
     one : (us : Kinds) (xs : List Pat) (vs : Kinds) → PatsRest n (p.Bind f ∷ []) us xs → Begins is_value (us ++ k.Equals ∷ vs)
     one us xs vs (inl z) = subst (λ q. Begins is_value (q ++ k.Equals ∷ vs)) (sym z.none) refl
@@ -164,7 +169,8 @@ value_of n f u v x b y z us e =
     let parts = (pat_same n).from u x y in
     one parts.left parts.first parts.right parts.is_left parts.is_right (sym (ap (λ q. q ++ v) parts.split) ∙ e)
   where
-    one : (left : Kinds) (c : Pat) (right : Kinds) → IsPterm n left c → PatBehind n c right x → (left ++ right) ++ v ≡ k.Name f ∷ us → ValueTail n f us b
+    one : (left : Kinds) (c : Pat) (right : Kinds) → IsPterm n left c → PatBehind n c right x → (left ++ right) ++ v ≡ k.Name
+        f ∷ us → ValueTail n f us b
     one [] c right h r d = absurd (pterm_begins h)
     one (t ∷ left) c right h r d =
         let heads : t ≡ k.Name f = cc in
@@ -180,13 +186,15 @@ value_of n f u v x b y z us e =
         }
 
 named_from : (n : ℕ) (f : List ℕ) (ts : Kinds) (b : Stmt) → LetTail n ts b → (us : Kinds) → ts ≡ k.Name f ∷ us → NamedTail n f us b
-named_from n f ts b (G.let_is {us = u} {vs = v} {x = x} {a = a} y z) us e = inl (value_of n f u (k.Equals ∷ v) x b y (equals_made n (of_value x) v a z) us e)
+named_from n f ts b (G.let_is {us = u} {vs = v} {x = x} {a = a} y z) us e =
+    inl (value_of n f u (k.Equals ∷ v) x b y (equals_made n (of_value x) v a z) us e)
 named_from n f ts b (G.let_unit {f = g} {vs = v} {a = a} z) us e =
     let names : g ≡ f = cc in
     let tails : k.CallParen ∷ k.ParenRight ∷ k.Equals ∷ v ≡ us = cc in
     subst (λ q. NamedTail n f q b) tails (inr (worded mark.CallParen (FunctionTail n f) (k.ParenRight ∷ k.Equals ∷ v) b
     (inr (worded mark.ParenRight (EqualsTail n (of_function f p.Nil)) (k.Equals ∷ v) b
-    (subst (λ q. EqualsTail n (of_function f p.Nil) (k.Equals ∷ v) (of_function q p.Nil a)) (sym names) (equals_made n (of_function f p.Nil) v a z))))))
+    (subst (λ q. EqualsTail n (of_function f p.Nil) (k.Equals ∷ v) (of_function q p.Nil a)) (sym names)
+    (equals_made n (of_function f p.Nil) v a z))))))
 named_from n f ts b (G.let_fun {f = g} {us = u} {vs = v} {x = x} {a = a} y z) us e =
     let names : g ≡ f = cc in
     let tails : k.CallParen ∷ (u ++ k.ParenRight ∷ k.Equals ∷ v) ≡ us = cc in
@@ -209,7 +217,8 @@ named_to n f u b (inl y) =
       right = y.right;
       split = ap (λ q. k.Name f ∷ q) y.split;
       first = y.first;
-      is_left = (pat_same n).to (k.Name f ∷ y.left) y.first (record { left = k.Name f ∷ []; right = y.left; split = refl; first = p.Bind f; is_left = G.p_name; is_right = y.is_left });
+      is_left = (pat_same n).to (k.Name f ∷ y.left) y.first
+          (record { left = k.Name f ∷ []; right = y.left; split = refl; first = p.Bind f; is_left = G.p_name; is_right = y.is_left });
       is_right = y.is_right;
     })
 named_to n f u b (inr y) = subst (λ q. LetTail n (k.Name f ∷ q) b) (sym (word_is mark.CallParen (FunctionTail n f) u b y)) (inside y.right y.is_right)
@@ -218,24 +227,30 @@ named_to n f u b (inr y) = subst (λ q. LetTail n (k.Name f ∷ q) b) (sym (word
     inside u (inl y) =
         let equal = equals_is n (of_function f y.first) y.is_right.right b y.is_right.is_right in
         let all : u ≡ y.left ++ k.ParenRight ∷ k.Equals ∷ equal.0 =
-        y.split ∙ ap (λ q. y.left ++ q) (word_is mark.ParenRight (EqualsTail n (of_function f y.first)) y.right b y.is_right ∙ ap (λ q. k.ParenRight ∷ q) equal.2) in
+        y.split ∙ ap (λ q. y.left ++ q) (word_is mark.ParenRight (EqualsTail n (of_function f y.first)) y.right b y.is_right
+        ∙ ap (λ q. k.ParenRight ∷ q) equal.2) in
         subst (λ q. IsStmt (suc n) (k.Keyword w.KwLet ∷ k.Name f ∷ k.CallParen ∷ q) b) (sym all)
-        (subst (λ q. IsStmt (suc n) (k.Keyword w.KwLet ∷ k.Name f ∷ k.CallParen ∷ (y.left ++ k.ParenRight ∷ k.Equals ∷ equal.0)) q) equal.3 (G.let_fun y.is_left equal.4))
+        (subst (λ q. IsStmt (suc n) (k.Keyword w.KwLet ∷ k.Name f ∷ k.CallParen ∷ (y.left ++ k.ParenRight ∷ k.Equals ∷ equal.0)) q) equal.3
+        (G.let_fun y.is_left equal.4))
     inside u (inr y) =
         let equal = equals_is n (of_function f p.Nil) y.right b y.is_right in
-        let all : u ≡ k.ParenRight ∷ k.Equals ∷ equal.0 = word_is mark.ParenRight (EqualsTail n (of_function f p.Nil)) u b y ∙ ap (λ q. k.ParenRight ∷ q) equal.2 in
+        let all : u ≡ k.ParenRight ∷ k.Equals ∷ equal.0 = word_is mark.ParenRight (EqualsTail n (of_function f p.Nil)) u b y
+        ∙ ap (λ q. k.ParenRight ∷ q) equal.2 in
         subst (λ q. IsStmt (suc n) (k.Keyword w.KwLet ∷ k.Name f ∷ k.CallParen ∷ q) b) (sym all)
         (subst (λ q. IsStmt (suc n) (k.Keyword w.KwLet ∷ k.Name f ∷ k.CallParen ∷ k.ParenRight ∷ k.Equals ∷ equal.0) q) equal.3 (G.let_unit equal.4))
 
 let_some : (n : ℕ) (b : Stmt) → LetTail n [] b → ⊥
-let_some n b y = elim (pattern_from n [] b y) [ inl z ↦ begun (subst (Begins begins_pterm) (sym z.split) (begins_more begins_pterm z.left z.right (pat_begins z.is_left))) | inr c ↦ c ]
+let_some n b y = elim (pattern_from n [] b y)
+    [ inl z ↦ begun (subst (Begins begins_pterm) (sym z.split) (begins_more begins_pterm z.left z.right (pat_begins z.is_left))) | inr c ↦ c ]
   where
     begun : Begins begins_pterm [] → ⊥
     begun b = b
 
-by_pattern : (n : ℕ) (inner : Inner) → Below n inner → (ts : Kinds) → Avoids is_name ts → Answers (LetTail n) goes_on ts (let_pattern (suc n) inner ts)
+by_pattern : (n : ℕ) (inner : Inner) → Below n inner → (ts : Kinds) → Avoids is_name ts → Answers (LetTail n) goes_on ts
+    (let_pattern (suc n) inner ts)
 by_pattern n inner below ts off =
-    narrowed is_name (PatternTail n) (LetTail n) goes_on ts (let_pattern (suc n) inner ts) (pattern_to n) (pattern_from n) off (exact_pattern n inner below (length ts) ts (omega arith))
+    narrowed is_name (PatternTail n) (LetTail n) goes_on ts (let_pattern (suc n) inner ts) (pattern_to n) (pattern_from n) off
+    (exact_pattern n inner below (length ts) ts (omega arith))
 
 pub exact_let : (n : ℕ) (inner : Inner) → Below n inner → (ts : Kinds) → Answers (LetTail n) goes_on ts (let_rule (suc n) inner ts)
 unfolding let_rule
@@ -243,5 +258,6 @@ exact_let n inner below [] = by_pattern n inner below [] tt
 exact_let n inner below (k.Name f ∷ ts) =
     took (LetTail n) goes_on (k.Name f) ts (let_named (suc n) inner f ts) (λ b y off. let_some n b y)
     (along (NamedTail n f) (λ us. LetTail n (k.Name f ∷ us)) goes_on ts (let_named (suc n) inner f ts)
-    (record { to = named_to n f; from = λ u b y. named_from n f (k.Name f ∷ u) b y u refl }) (exact_named n inner below f (length ts) ts (omega arith)))
+    (record { to = named_to n f; from = λ u b y. named_from n f (k.Name f ∷ u) b y u refl })
+    (exact_named n inner below f (length ts) ts (omega arith)))
 exact_let n inner below (t ∷ ts) = by_pattern n inner below (t ∷ ts) refl

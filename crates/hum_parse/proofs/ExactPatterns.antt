@@ -51,10 +51,13 @@ module _ (n : ℕ) (g : TokenKind → Bool) (ts : Kinds) where
   one_token : (t : TokenKind) (x : Pat) → IsPterm n (t ∷ []) x → ((u : Kinds) (b : Pat) → IsPterm n (t ∷ u) b → Pure x u b)
       → Answers (IsPterm n) g (t ∷ ts) (Ok (x, ts))
   one_token t x made only = took (IsPterm n) g t ts (Ok (x, ts)) (λ b y off. pterm_begins y)
-      (along (Pure x) (λ us. IsPterm n (t ∷ us)) g ts (Ok (x, ts)) (record { to = λ u b y. subst (λ z. IsPterm n (t ∷ z) b) (sym y.none) (subst (IsPterm n (t ∷ [])) y.same made); from = only }) (exact_pure x g ts))
+      (along (Pure x) (λ us. IsPterm n (t ∷ us)) g ts (Ok (x, ts))
+      (record { to = λ u b y. subst (λ z. IsPterm n (t ∷ z) b) (sym y.none) (subst (IsPterm n (t ∷ [])) y.same made); from = only })
+      (exact_pure x g ts))
 
   not_here : (t : TokenKind) → begins_pterm t ≡ false → Answers (IsPterm n) g (t ∷ ts) (Err (t ∷ ts))
-  not_here t off = no_way (IsPterm n) g t ts (pterm_ends n) (λ b y. pterm_begins y) (λ u b y. let no : true ≡ false = sym (pterm_begins y) ∙ off in cc)
+  not_here t off = no_way (IsPterm n) g t ts (pterm_ends n) (λ b y. pterm_begins y) (λ u b y. let no : true ≡ false =
+      sym (pterm_begins y) ∙ off in cc)
 
 -- What stands behind a token, by the cases of the grammar.
 only_any : {n : ℕ} (u : Kinds) (b : Pat) → IsPterm n (k.Wildcard ∷ u) b → Pure p.Any u b
@@ -92,10 +95,19 @@ value_same n = record { to = to; from = from }
     to : (u : Kinds) (b : Pat) → ValueTail n u b → IsPterm (suc n) (k.Dollar ∷ u) b
     to u b y =
         let all : u ≡ y.left = y.split ∙ ap (λ z. y.left ++ z) y.is_right.none ∙ append-nil y.left in
-        subst (λ z. IsPterm (suc n) (k.Dollar ∷ u) z) y.is_right.same (subst (λ z. IsPterm (suc n) (k.Dollar ∷ z) (p.Value y.first)) (sym all) (G.p_value y.is_left))
+        subst (λ z. IsPterm (suc n) (k.Dollar ∷ u) z) y.is_right.same
+        (subst (λ z. IsPterm (suc n) (k.Dollar ∷ z) (p.Value y.first)) (sym all) (G.p_value y.is_left))
 
     from : (u : Kinds) (b : Pat) → IsPterm (suc n) (k.Dollar ∷ u) b → ValueTail n u b
-    from u b (G.p_value a) = record { left = u; right = []; split = sym (append-nil u); first = _; is_left = a; is_right = record { none = refl; same = refl } }
+    from u b (G.p_value a) = record {
+      left = u;
+      right = [];
+      split = sym (append-nil u);
+      first = _;
+      is_left = a;
+      is_right =
+          record { none = refl; same = refl };
+    }
 
 value_follows : {A : Type 0} (f : Expr → A) (a : Expr) (y v : Kinds) (b : A) → Pure (f a) y b → Avoids goes_term v → Avoids goes_term (y ++ v)
 value_follows f a y v b x g = subst (λ z. Avoids goes_term (z ++ v)) (sym x.none) g
@@ -103,7 +115,8 @@ value_follows f a y v b x g = subst (λ z. Avoids goes_term (z ++ v)) (sym x.non
 exact_value : (n : ℕ) (inner : Inner) → Below n inner → (m : ℕ) → Exact (suc m) (ValueTail n) goes_term (pat_value (suc n) inner)
 unfolding pat_value
 exact_value n inner below m =
-    exact_then (IsTerm n) goes_term (λ a. Pure (p.Value a)) goes_term (value_follows p.Value) m inner.term (λ a. pure (p.Value a)) (below.term (suc m))
+    exact_then (IsTerm n) goes_term (λ a. Pure (p.Value a)) goes_term (value_follows p.Value) m inner.term
+    (λ a. pure (p.Value a)) (below.term (suc m))
     (λ a ts h. exact_pure (p.Value a) goes_term ts)
 
 -- ---- `( pat )`
@@ -114,7 +127,8 @@ ParenTail n = Then (IsPat n) (λ x. Then (Word mark.ParenRight) (λ _. Pure x))
 exact_paren : (n : ℕ) (inner : Inner) → Below n inner → (g : TokenKind → Bool) (m : ℕ) → Exact (suc m) (ParenTail n) g (pat_inside (suc n) inner)
 unfolding pat_inside
 exact_paren n inner below g m =
-    exact_then (IsPat n) goes_on (λ x. Then (Word mark.ParenRight) (λ _. Pure x)) g (λ a y v b t f. word_follows goes_on mark.ParenRight refl (Pure a) y v b t) m inner.pat
+    exact_then (IsPat n) goes_on (λ x. Then (Word mark.ParenRight) (λ _. Pure x)) g
+    (λ a y v b t f. word_follows goes_on mark.ParenRight refl (Pure a) y v b t) m inner.pat
     (λ x ts. and_then (expect mark.ParenRight ts) (λ _. pure x)) (below.pat (suc m)) (λ x. exact_close mark.ParenRight x g m)
 
 -- ---- a pattern between commas, whole
@@ -129,13 +143,16 @@ pat_begins (G.pat_tuple xs) = pats_begins xs
 
 paren_to : (n : ℕ) (u : Kinds) (b : Pat) → ParenTail n u b → IsPterm (suc n) (k.ParenLeft ∷ u) b
 paren_to n u b y =
-    let inner : y.right ≡ k.ParenRight ∷ [] = y.is_right.split ∙ ap (λ z. z ++ y.is_right.right) y.is_right.is_left ∙ ap (λ z. k.ParenRight ∷ z) y.is_right.is_right.none in
+    let inner : y.right ≡ k.ParenRight ∷ [] = y.is_right.split ∙ ap (λ z. z ++ y.is_right.right) y.is_right.is_left ∙ ap (λ z. k.ParenRight ∷ z)
+    y.is_right.is_right.none in
     let all : u ≡ y.left ++ k.ParenRight ∷ [] = y.split ∙ ap (λ z. y.left ++ z) inner in
-    subst (λ z. IsPterm (suc n) (k.ParenLeft ∷ u) z) y.is_right.is_right.same (subst (λ z. IsPterm (suc n) (k.ParenLeft ∷ z) y.first) (sym all) (G.p_paren y.is_left))
+    subst (λ z. IsPterm (suc n) (k.ParenLeft ∷ u) z) y.is_right.is_right.same
+    (subst (λ z. IsPterm (suc n) (k.ParenLeft ∷ z) y.first) (sym all) (G.p_paren y.is_left))
 
 paren_from : (n : ℕ) (u : Kinds) (b : Pat) → IsPterm (suc n) (k.ParenLeft ∷ u) b → ParenTail n u b ⊎ Close mark.ParenRight p.Nil u b
 paren_from n u b G.p_empty = inr (closes mark.ParenRight p.Nil)
-paren_from n u b (G.p_paren x) = inl (record { left = _; right = k.ParenRight ∷ []; split = refl; first = b; is_left = x; is_right = closes mark.ParenRight b })
+paren_from n u b (G.p_paren x) =
+    inl (record { left = _; right = k.ParenRight ∷ []; split = refl; first = b; is_left = x; is_right = closes mark.ParenRight b })
 
 paren_some : (n : ℕ) (u : Kinds) (b : Pat) → ParenTail n u b → Begins begins_pterm u
 paren_some n u b y = subst (Begins begins_pterm) (sym y.split) (begins_more begins_pterm y.left y.right (pat_begins y.is_left))
@@ -171,15 +188,19 @@ pterm_at n inner below k.Undefined ts = one_token n goes_term ts k.Undefined p.U
 pterm_at zero inner below k.Dollar ts = no_way (IsPterm 0) goes_term k.Dollar ts (pterm_ends 0) (λ b y. pterm_begins y) no_value
 pterm_at (suc n) inner below k.Dollar ts =
     rw not_last (took (IsPterm (suc n)) goes_term k.Dollar ts (pat_value (suc n) inner ts) (λ b y off. pterm_begins y)
-    (along (ValueTail n) (λ us. IsPterm (suc n) (k.Dollar ∷ us)) goes_term ts (pat_value (suc n) inner ts) (value_same n) (exact_value n inner below (length ts) ts (omega arith))))
+    (along (ValueTail n) (λ us. IsPterm (suc n) (k.Dollar ∷ us)) goes_term ts (pat_value (suc n) inner ts) (value_same n)
+    (exact_value n inner below (length ts) ts (omega arith))))
 pterm_at zero inner below k.ParenLeft ts =
     took (IsPterm 0) goes_term k.ParenLeft ts (either mark.ParenRight (pure p.Nil) (λ ts. Err ts) ts) (λ b y off. pterm_begins y)
-    (along (Close mark.ParenRight p.Nil) (λ us. IsPterm 0 (k.ParenLeft ∷ us)) goes_term ts (either mark.ParenRight (pure p.Nil) (λ ts. Err ts) ts) shut_same
+    (along (Close mark.ParenRight p.Nil) (λ us. IsPterm 0 (k.ParenLeft ∷ us)) goes_term ts
+    (either mark.ParenRight (pure p.Nil) (λ ts. Err ts) ts) shut_same
     (exact_shut mark.ParenRight p.Nil goes_term (length ts) ts (omega arith)))
 pterm_at (suc n) inner below k.ParenLeft ts =
-    rw not_last (took (IsPterm (suc n)) goes_term k.ParenLeft ts (either mark.ParenRight (pure p.Nil) (pat_inside (suc n) inner) ts) (λ b y off. pterm_begins y)
+    rw not_last (took (IsPterm (suc n)) goes_term k.ParenLeft ts (either mark.ParenRight (pure p.Nil) (pat_inside (suc n) inner) ts)
+    (λ b y off. pterm_begins y)
     (exact_else mark.ParenRight p.Nil (ParenTail n) (λ us. IsPterm (suc n) (k.ParenLeft ∷ us)) goes_term (paren_to n) G.p_empty (paren_from n)
-    (λ b y. paren_some n [] b y) (λ u b y c. apart_right u (paren_some n u b y) c) (length ts) (pat_inside (suc n) inner) (exact_paren n inner below goes_term (length ts)) ts (omega arith)))
+    (λ b y. paren_some n [] b y) (λ u b y c. apart_right u (paren_some n u b y) c) (length ts) (pat_inside (suc n) inner)
+    (exact_paren n inner below goes_term (length ts)) ts (omega arith)))
 pterm_at n inner below t ts = not_here n goes_term ts t refl
 
 pub exact_pterm : (n : ℕ) (inner : Inner) → Levels n inner → (m : ℕ) → Exact m (IsPterm n) goes_term (pterm n inner)
@@ -195,7 +216,8 @@ PatsTail n found = Then (IsPterm n) (λ x. Or mark.Comma (found ++ x ∷ []) (Be
 pats_same : (n : ℕ) (found : List Pat) → Same (PatsTail n found) (Behind found (IsPats n))
 pats_same n found = record { to = to; from = from }
   where
-    joined : (left right : Kinds) (x : Pat) (b : List Pat) → IsPterm n left x → Or mark.Comma (found ++ x ∷ []) (Behind (found ++ x ∷ []) (IsPats n)) right b → Behind found (IsPats n) (left ++ right) b
+    joined : (left right : Kinds) (x : Pat) (b : List Pat) → IsPterm n left x → Or mark.Comma (found ++ x ∷ []) (Behind (found ++ x ∷ []) (IsPats n))
+        right b → Behind found (IsPats n) (left ++ right) b
     joined left right x b p (inl y) = record {
       more = x ∷ [];
       is = y.same;
@@ -204,21 +226,38 @@ pats_same n found = record { to = to; from = from }
     joined left right x b p (inr y) = record {
       more = x ∷ y.is_right.more;
       is = sym (append_assoc found (x ∷ []) y.is_right.more) ∙ y.is_right.is;
-      spelled = subst (λ z. IsPats n (left ++ z) (x ∷ y.is_right.more)) (sym (y.split ∙ ap (λ z. z ++ y.right) y.is_left)) (G.pats_comma p y.is_right.spelled);
+      spelled = subst (λ z. IsPats n (left ++ z) (x ∷ y.is_right.more)) (sym (y.split ∙ ap (λ z. z ++ y.right) y.is_left))
+          (G.pats_comma p y.is_right.spelled);
     }
 
     to : (u : Kinds) (b : List Pat) → PatsTail n found u b → Behind found (IsPats n) u b
     to u b y = subst (λ z. Behind found (IsPats n) z b) (sym y.split) (joined y.left y.right y.first b y.is_left y.is_right)
 
     parted : (u : Kinds) (xs b : List Pat) → IsPats n u xs → found ++ xs ≡ b → PatsTail n found u b
-    parted u xs b (G.pats_last p) e = record { left = u; right = []; split = sym (append-nil u); first = _; is_left = p; is_right = inl (record { none = refl; same = e }) }
+    parted u xs b (G.pats_last p) e = record {
+      left = u;
+      right = [];
+      split = sym (append-nil u);
+      first = _;
+      is_left = p;
+      is_right =
+          inl (record { none = refl; same = e });
+    }
     parted u xs b (G.pats_comma {us = us} {vs = vs} {x = x} {xs = ys} p ps) e = record {
       left = us;
       right = k.Comma ∷ vs;
       split = refl;
       first = x;
       is_left = p;
-      is_right = inr (record { left = k.Comma ∷ []; right = vs; split = refl; first = tt; is_left = refl; is_right = record { more = ys; is = append_assoc found (x ∷ []) ys ∙ e; spelled = ps } });
+      is_right = inr (record {
+        left = k.Comma ∷ [];
+        right = vs;
+        split = refl;
+        first = tt;
+        is_left = refl;
+        is_right =
+            record { more = ys; is = append_assoc found (x ∷ []) ys ∙ e; spelled = ps };
+      });
     }
 
     from : (u : Kinds) (b : List Pat) → Behind found (IsPats n) u b → PatsTail n found u b
@@ -235,8 +274,10 @@ exact_pats_from n inner below zero found [] h =
     exact_or mark.Comma found (Behind found (IsPats n)) goes_on refl 0 (λ ts. Err ts) (λ ts l. absurd (omega arith)) [] h
 exact_pats_from n inner below zero found (t ∷ ts) h = absurd (omega arith)
 exact_pats_from n inner below (suc turns) found ts h =
-    exact_or mark.Comma found (Behind found (IsPats n)) goes_on refl (suc turns) (λ us. and_then (pterm n inner us) (λ x. pats_from n inner turns (found ++ x ∷ [])))
-    (λ us l. along (PatsTail n found) (Behind found (IsPats n)) goes_on us (and_then (pterm n inner us) (λ x. pats_from n inner turns (found ++ x ∷ []))) (pats_same n found)
+    exact_or mark.Comma found (Behind found (IsPats n)) goes_on refl (suc turns)
+    (λ us. and_then (pterm n inner us) (λ x. pats_from n inner turns (found ++ x ∷ [])))
+    (λ us l. along (PatsTail n found) (Behind found (IsPats n)) goes_on us
+    (and_then (pterm n inner us) (λ x. pats_from n inner turns (found ++ x ∷ []))) (pats_same n found)
     (exact_then (IsPterm n) goes_term (λ x. PatsRest n (found ++ x ∷ [])) goes_on
     (λ x y v b t f. or_follows (found ++ x ∷ []) (Behind (found ++ x ∷ []) (IsPats n)) y v b t f) turns (pterm n inner)
     (λ x. pats_from n inner turns (found ++ x ∷ [])) (exact_pterm n inner below (suc turns))
@@ -247,7 +288,8 @@ exact_pats_from n inner below (suc turns) found ts h =
 pub exact_pat_behind : (n : ℕ) (inner : Inner) → Levels n inner → (x : Pat) (m : ℕ) → Exact m (PatBehind n x) goes_on (pat_behind n inner x)
 unfolding pat_behind
 exact_pat_behind n inner below x m ts h =
-    exact_made (PatsRest n (x ∷ [])) goes_on pat_of (length ts) (pats_from n inner (length ts) (x ∷ [])) (exact_pats_from n inner below (length ts) (x ∷ [])) ts (omega arith)
+    exact_made (PatsRest n (x ∷ [])) goes_on pat_of (length ts) (pats_from n inner (length ts) (x ∷ []))
+    (exact_pats_from n inner below (length ts) (x ∷ [])) ts (omega arith)
 
 pat_behind_follows : (n : ℕ) (x : Pat) (y v : Kinds) (b : Pat) → PatBehind n x y b → Avoids goes_on v → Avoids goes_term (y ++ v)
 pat_behind_follows n x y v b t f =
@@ -267,15 +309,26 @@ pat_same n = record { to = to; from = from }
         let z = y.is_right in
         let all : u ≡ y.left ++ z.left = y.split ∙ ap (λ s. y.left ++ s) (pure_split (pat_of z.first) z.left y.right z.right b z.split z.is_right) in
         let xs : Behind [] (IsPats n) (y.left ++ z.left) z.first =
-        (pats_same n []).to (y.left ++ z.left) z.first (record { left = y.left; right = z.left; split = refl; first = y.first; is_left = y.is_left; is_right = z.is_left }) in
-        subst (λ s. IsPat n s b) (sym all) (subst (λ s. IsPat n (y.left ++ z.left) s) z.is_right.same (made (y.left ++ z.left) xs.more z.first xs.spelled xs.is))
+        (pats_same n []).to (y.left ++ z.left) z.first
+        (record { left = y.left; right = z.left; split = refl; first = y.first; is_left = y.is_left; is_right = z.is_left }) in
+        subst (λ s. IsPat n s b) (sym all)
+        (subst (λ s. IsPat n (y.left ++ z.left) s) z.is_right.same (made (y.left ++ z.left) xs.more z.first xs.spelled xs.is))
 
     parted : (u : Kinds) (xs : List Pat) → PatsTail n [] u xs → Then (IsPterm n) (PatBehind n) u (pat_of xs)
-    parted u xs y = record { left = y.left; right = y.right; split = y.split; first = y.first; is_left = y.is_left; is_right = pured (PatsRest n (y.first ∷ [])) pat_of y.right xs y.is_right }
+    parted u xs y = record {
+      left = y.left;
+      right = y.right;
+      split = y.split;
+      first = y.first;
+      is_left = y.is_left;
+      is_right =
+          pured (PatsRest n (y.first ∷ [])) pat_of y.right xs y.is_right;
+    }
 
     from : (u : Kinds) (b : Pat) → IsPat n u b → Then (IsPterm n) (PatBehind n) u b
     from u b (G.pat_only h) = parted u (b ∷ []) ((pats_same n []).from u (b ∷ []) (record { more = b ∷ []; is = refl; spelled = h }))
-    from u b (G.pat_tuple {x = x} {y = y} {xs = xs} h) = parted u (x ∷ y ∷ xs) ((pats_same n []).from u (x ∷ y ∷ xs) (record { more = x ∷ y ∷ xs; is = refl; spelled = h }))
+    from u b (G.pat_tuple {x = x} {y = y} {xs = xs} h) =
+        parted u (x ∷ y ∷ xs) ((pats_same n []).from u (x ∷ y ∷ xs) (record { more = x ∷ y ∷ xs; is = refl; spelled = h }))
 
 pub exact_pat : (n : ℕ) (inner : Inner) → Levels n inner → (m : ℕ) → Exact m (IsPat n) goes_on (pat n inner)
 unfolding pat

@@ -63,7 +63,8 @@ nothing_on t ts (k ∷ more) v same e f = let no : true ≡ false = subst (Avoid
 
 none_empty : (n : ℕ) (u : Kinds) (xs : List Stmt) → IsStmts n u xs → u ≡ [] → xs ≡ []
 none_empty n u xs G.stmts_none e = refl
-none_empty n u xs (G.stmts_more {us = us} {vs = vs} {x = x} y ys) e = absurd (subst (Begins begins_stmt) e (begins_more begins_stmt us vs (stmt_begins n us x y)))
+none_empty n u xs (G.stmts_more {us = us} {vs = vs} {x = x} y ys) e =
+    absurd (subst (Begins begins_stmt) e (begins_more begins_stmt us vs (stmt_begins n us x y)))
 
 abbrev ProgramTail : ℕ → List Stmt → Language (List Stmt)
 ProgramTail n found = Then (IsStmt n) (λ x. Behind (found ++ x ∷ []) (IsStmts n))
@@ -90,7 +91,8 @@ program_parts n found u b y = parted u y.more b y.spelled y.is
     })
 
 -- more tokens stand there, so the empty list is no spelling of them
-goes_on_with : {A : Type 0} (Q T : Language A) (t : TokenKind) (ts : Kinds) (o : Outcome A) → ((u : Kinds) (b : A) → Q u b → T u b) → ((u : Kinds) (b : A) → T u b → Q u b ⊎ (u ≡ []))
+goes_on_with : {A : Type 0} (Q T : Language A) (t : TokenKind) (ts : Kinds) (o : Outcome A) → ((u : Kinds) (b : A) → Q u b → T u b)
+    → ((u : Kinds) (b : A) → T u b → Q u b ⊎ (u ≡ []))
     → Answers Q all_on (t ∷ ts) o → Answers T all_on (t ∷ ts) o
 goes_on_with Q T t ts (Ok p) to from w = record {
   front = w.front;
@@ -101,7 +103,9 @@ goes_on_with Q T t ts (Ok p) to from w = record {
   where
     one : (more u v : Kinds) (b : _) → SameHead p.1 more → w.front ++ more ≡ u ++ v → Q u b ⊎ (u ≡ []) → Avoids all_on v → (u ≡ w.front) × (p.0 ≡ b)
     one more u v b same e (inl q) f = w.unique more u v b same e q f
-    one more u v b same e (inr x) f = absurd (nothing_on t ts (w.front ++ more) v (subst (λ z. SameHead z (w.front ++ more)) (sym w.split) (same_behind w.front p.1 more same)) (e ∙ ap (λ z. z ++ v) x) f)
+    one more u v b same e (inr x) f =
+        absurd (nothing_on t ts (w.front ++ more) v (subst (λ z. SameHead z (w.front ++ more)) (sym w.split) (same_behind w.front p.1 more same))
+        (e ∙ ap (λ z. z ++ v) x) f)
 goes_on_with Q T t ts (Err rest) to from w = record {
   front = w.front;
   split = w.split;
@@ -114,7 +118,9 @@ goes_on_with Q T t ts (Err rest) to from w = record {
   where
     one : (more u v : Kinds) (b : _) → SameHead rest more → w.front ++ more ≡ u ++ v → Q u b ⊎ (u ≡ []) → Avoids all_on v → ⊥
     one more u v b same e (inl q) f = w.dead more u v b same e q f
-    one more u v b same e (inr x) f = nothing_on t ts (w.front ++ more) v (subst (λ z. SameHead z (w.front ++ more)) (sym w.split) (same_behind w.front rest more same)) (e ∙ ap (λ z. z ++ v) x) f
+    one more u v b same e (inr x) f =
+        nothing_on t ts (w.front ++ more) v (subst (λ z. SameHead z (w.front ++ more)) (sym w.split) (same_behind w.front rest more same))
+        (e ∙ ap (λ z. z ++ v) x) f
 
 stmts_avoid : (n : ℕ) (u v : Kinds) (xs : List Stmt) → IsStmts n u xs → Avoids all_on v → Avoids goes_on (u ++ v)
 stmts_avoid n u [] xs G.stmts_none f = tt
@@ -142,14 +148,18 @@ at_last n found = record {
     last [] u v b same e y = let empty : u ≡ [] = nil u v e in
         (empty, sym (append-nil found) ∙ ap (λ z. found ++ z) (sym (none_empty n u y.more y.spelled empty)) ∙ y.is)
 
-exact_program_from : (n : ℕ) (turns : ℕ) (found : List Stmt) → Exact (suc turns) (Behind found (IsStmts (suc n))) all_on (program_from (suc n) turns found)
+exact_program_from : (n : ℕ) (turns : ℕ) (found : List Stmt) → Exact (suc turns) (Behind found (IsStmts (suc n))) all_on
+    (program_from (suc n) turns found)
 unfolding program_from
 exact_program_from n turns found [] h = at_last (suc n) found
 exact_program_from n zero found (t ∷ ts) h = absurd (omega arith)
 exact_program_from n (suc turns) found (t ∷ ts) h =
-    goes_on_with (ProgramTail (suc n) found) (Behind found (IsStmts (suc n))) t ts (program_from (suc n) (suc turns) found (t ∷ ts)) (program_to (suc n) found) (program_parts (suc n) found)
-    (exact_some (IsStmt (suc n)) goes_on (λ x. Behind (found ++ x ∷ []) (IsStmts (suc n))) all_on (λ x y v b z f. stmts_avoid (suc n) y v z.more z.spelled f) (λ x y. some_stmt (suc n) x y) turns
-    (stmt (suc n) (inner_at (suc n))) (λ x. program_from (suc n) turns (found ++ x ∷ [])) (exact_stmt n (inner_at (suc n)) (all_levels (suc n)) (suc (suc turns)))
+    goes_on_with (ProgramTail (suc n) found) (Behind found (IsStmts (suc n))) t ts (program_from (suc n) (suc turns) found (t ∷ ts))
+    (program_to (suc n) found) (program_parts (suc n) found)
+    (exact_some (IsStmt (suc n)) goes_on (λ x. Behind (found ++ x ∷ []) (IsStmts (suc n))) all_on
+    (λ x y v b z f. stmts_avoid (suc n) y v z.more z.spelled f) (λ x y. some_stmt (suc n) x y) turns
+    (stmt (suc n) (inner_at (suc n))) (λ x. program_from (suc n) turns (found ++ x ∷ []))
+    (exact_stmt n (inner_at (suc n)) (all_levels (suc n)) (suc (suc turns)))
     (λ x. exact_program_from n turns (found ++ x ∷ [])) (t ∷ ts) h)
 
 -- What the parser answers of a program is exact.

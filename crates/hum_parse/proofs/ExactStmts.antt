@@ -39,7 +39,8 @@ create_to n u x y =
     let body : y.is_right.right ≡ z.left = pure_split (s.Create y.first z.first) z.left y.is_right.right z.right x z.split z.is_right in
     let all : u ≡ k.Name y.first ∷ k.Keyword w.KwWith ∷ z.left =
     y.split ∙ ap (λ q. q ++ y.right) y.is_left
-    ∙ ap (λ q. k.Name y.first ∷ q) (word_is mark.With (Then (IsExpr n) (λ c. Pure (s.Create y.first c))) y.right x y.is_right ∙ ap (λ q. k.Keyword w.KwWith ∷ q) body) in
+    ∙ ap (λ q. k.Name y.first ∷ q) (word_is mark.With (Then (IsExpr n) (λ c. Pure (s.Create y.first c))) y.right x y.is_right
+    ∙ ap (λ q. k.Keyword w.KwWith ∷ q) body) in
     subst (λ q. IsStmt (suc n) (k.Keyword w.KwCreate ∷ q) x) (sym all)
     (subst (λ q. IsStmt (suc n) (k.Keyword w.KwCreate ∷ k.Name y.first ∷ k.Keyword w.KwWith ∷ z.left) q) z.is_right.same (G.create z.is_left))
 
@@ -72,8 +73,11 @@ send_to : (n : ℕ) (u : Kinds) (x : Stmt) → SendTail n u x → IsStmt (suc n)
 send_to n u x y =
     let z = y.is_right.is_right in
     let body : y.is_right.right ≡ z.left = pure_split (s.Send y.first z.first) z.left y.is_right.right z.right x z.split z.is_right in
-    let all : u ≡ y.left ++ k.Keyword w.KwTo ∷ z.left = y.split ∙ ap (λ q. y.left ++ q) (word_is mark.To (Then (IsExpr n) (λ c. Pure (s.Send y.first c))) y.right x y.is_right ∙ ap (λ q. k.Keyword w.KwTo ∷ q) body) in
-    subst (λ q. IsStmt (suc n) (k.Keyword w.KwSend ∷ q) x) (sym all) (subst (λ q. IsStmt (suc n) (k.Keyword w.KwSend ∷ (y.left ++ k.Keyword w.KwTo ∷ z.left)) q) z.is_right.same (G.send y.is_left z.is_left))
+    let all : u ≡ y.left ++ k.Keyword w.KwTo ∷ z.left =
+    y.split ∙ ap (λ q. y.left ++ q) (word_is mark.To (Then (IsExpr n) (λ c. Pure (s.Send y.first c))) y.right x y.is_right
+    ∙ ap (λ q. k.Keyword w.KwTo ∷ q) body) in
+    subst (λ q. IsStmt (suc n) (k.Keyword w.KwSend ∷ q) x) (sym all)
+    (subst (λ q. IsStmt (suc n) (k.Keyword w.KwSend ∷ (y.left ++ k.Keyword w.KwTo ∷ z.left)) q) z.is_right.same (G.send y.is_left z.is_left))
 
 exact_send : (n : ℕ) (inner : Inner) → Below n inner → (m : ℕ) → Exact (suc m) (SendTail n) goes_on (send (suc n) inner)
 unfolding send
@@ -102,7 +106,8 @@ does_from n u x (G.become a) = inr refl
 does_from n u x (G.throw a) = inr refl
 does_from n u x (G.does {a = a} y) = inl (pured (IsExpr n) (λ c. s.Do c) u a y)
 
-exact_does : (n : ℕ) (inner : Inner) → Below n inner → (ts : Kinds) → Answers (Then (IsExpr n) (λ a. Pure (s.Do a))) goes_on ts (does (suc n) inner ts)
+exact_does : (n : ℕ) (inner : Inner) → Below n inner → (ts : Kinds) → Answers (Then (IsExpr n) (λ a. Pure (s.Do a))) goes_on
+    ts (does (suc n) inner ts)
 unfolding does
 exact_does n inner below ts = exact_made (IsExpr n) goes_on (λ a. s.Do a) (length ts) inner.expr (below.expr (suc (length ts))) ts (omega arith)
 
@@ -110,24 +115,34 @@ pub some_stmt : (n : ℕ) (x : Stmt) → IsStmt n [] x → ⊥
 some_stmt n x y = stmt_begins n [] x y
 
 module _ (n : ℕ) (inner : Inner) (below : Below n inner) (ts : Kinds) where
-  by_word : (t : TokenKind) (T : Language Stmt) (o : Outcome Stmt) → Same T (λ us. IsStmt (suc n) (t ∷ us)) → Answers T goes_on ts o → Answers (IsStmt (suc n)) goes_on (t ∷ ts) o
-  by_word t T o same x = took (IsStmt (suc n)) goes_on t ts o (λ b y off. some_stmt (suc n) b y) (along T (λ us. IsStmt (suc n) (t ∷ us)) goes_on ts o same x)
+  by_word : (t : TokenKind) (T : Language Stmt) (o : Outcome Stmt) → Same T (λ us. IsStmt (suc n) (t ∷ us)) → Answers T goes_on ts o
+      → Answers (IsStmt (suc n)) goes_on (t ∷ ts) o
+  by_word t T o same x = took (IsStmt (suc n)) goes_on t ts o (λ b y off. some_stmt (suc n) b y)
+      (along T (λ us. IsStmt (suc n) (t ∷ us)) goes_on ts o same x)
 
   by_does : (us : Kinds) → Avoids is_word us → Answers (IsStmt (suc n)) goes_on us (does (suc n) inner us)
   by_does us off = narrowed is_word (Then (IsExpr n) (λ a. Pure (s.Do a))) (IsStmt (suc n)) goes_on us (does (suc n) inner us)
       (unpured (IsExpr n) (λ a. s.Do a) (IsStmt (suc n)) (λ u a y. G.does y)) (does_from n) off (exact_does n inner below us)
 
-stmt_at : (n : ℕ) (inner : Inner) → Below n inner → (t : TokenKind) (ts : Kinds) → Answers (IsStmt (suc n)) goes_on (t ∷ ts) (stmt_by (suc n) inner t ts)
+stmt_at : (n : ℕ) (inner : Inner) → Below n inner → (t : TokenKind) (ts : Kinds) → Answers (IsStmt (suc n)) goes_on (t ∷ ts)
+    (stmt_by (suc n) inner t ts)
 unfolding stmt_by becomes throws
 stmt_at n inner below (k.Keyword w.KwLet) ts =
-    by_word n inner below ts (k.Keyword w.KwLet) (LetTail n) (let_rule (suc n) inner ts) (record { to = λ u b y. y; from = λ u b y. y }) (exact_let n inner below ts)
+    by_word n inner below ts (k.Keyword w.KwLet) (LetTail n) (let_rule (suc n) inner ts) (record { to = λ u b y. y; from = λ u b y. y })
+    (exact_let n inner below ts)
 stmt_at n inner below (k.Keyword w.KwSend) ts =
-    by_word n inner below ts (k.Keyword w.KwSend) (SendTail n) (send (suc n) inner ts) (record { to = send_to n; from = send_from n }) (exact_send n inner below (length ts) ts (omega arith))
+    by_word n inner below ts (k.Keyword w.KwSend) (SendTail n) (send (suc n) inner ts) (record { to = send_to n; from = send_from n })
+    (exact_send n inner below (length ts) ts (omega arith))
 stmt_at n inner below (k.Keyword w.KwCreate) ts =
-    by_word n inner below ts (k.Keyword w.KwCreate) (CreateTail n) (create (suc n) inner ts) (record { to = create_to n; from = create_from n }) (exact_create n inner below (length ts) ts (omega arith))
+    by_word n inner below ts (k.Keyword w.KwCreate) (CreateTail n) (create (suc n) inner ts) (record { to = create_to n; from = create_from n })
+    (exact_create n inner below (length ts) ts (omega arith))
 stmt_at n inner below (k.Keyword w.KwBecome) ts =
     by_word n inner below ts (k.Keyword w.KwBecome) (Then (IsExpr n) (λ a. Pure (s.Become a))) (becomes (suc n) inner ts)
-    (record { to = unpured (IsExpr n) (λ a. s.Become a) (λ us. IsStmt (suc n) (k.Keyword w.KwBecome ∷ us)) (λ u a y. G.become y); from = become_from n })
+    (record {
+      to = unpured (IsExpr n) (λ a. s.Become a) (λ us. IsStmt (suc n) (k.Keyword w.KwBecome ∷ us)) (λ u a y. G.become y);
+      from =
+          become_from n;
+    })
     (exact_made (IsExpr n) goes_on (λ a. s.Become a) (length ts) inner.expr (below.expr (suc (length ts))) ts (omega arith))
 stmt_at n inner below (k.Keyword w.KwThrow) ts =
     by_word n inner below ts (k.Keyword w.KwThrow) (Then (IsExpr n) (λ a. Pure (s.Throw a))) (throws (suc n) inner ts)

@@ -34,8 +34,10 @@ module _ (n : ℕ) (ts : Kinds) where
   not_here : (t : TokenKind) → ((us : Kinds) (b : Expr) → TermBy n t us b → ⊥) → Answers (IsTerm n) goes_term (t ∷ ts) (Err (t ∷ ts))
   not_here t none = no_way (IsTerm n) goes_term t ts (term_ends n) (λ b y. term_begins y) (λ u b y. none u b (term_from n t u b y))
 
-  by_atom : (inner : Inner) → Levels n inner → (t : TokenKind) (a : Expr) → Same (IsCalls (suc n) a) (TermBy n t) → Answers (IsTerm n) goes_term (t ∷ ts) (calls n inner a ts)
-  by_atom inner below t a s = by_token t (calls n inner a ts) (along (IsCalls (suc n) a) (TermBy n t) goes_term ts (calls n inner a ts) s (exact_calls n inner below a (length ts) ts (omega arith)))
+  by_atom : (inner : Inner) → Levels n inner → (t : TokenKind) (a : Expr) → Same (IsCalls (suc n) a) (TermBy n t) → Answers (IsTerm n) goes_term
+      (t ∷ ts) (calls n inner a ts)
+  by_atom inner below t a s = by_token t (calls n inner a ts)
+      (along (IsCalls (suc n) a) (TermBy n t) goes_term ts (calls n inner a ts) s (exact_calls n inner below a (length ts) ts (omega arith)))
 
 -- ---- `( expr )`
 
@@ -44,12 +46,23 @@ ParenTail n = Then (IsExpr n) (λ a. Then (Word mark.ParenRight) (λ _. IsCalls 
 
 paren_to : (n : ℕ) (u : Kinds) (b : Expr) → ParenTail n u b → TermBy (suc n) k.ParenLeft u b
 paren_to n u b y =
-    let all : u ≡ y.left ++ k.ParenRight ∷ y.is_right.right = y.split ∙ ap (λ z. y.left ++ z) (word_is mark.ParenRight (IsCalls (suc (suc n)) y.first) y.right b y.is_right) in
+    let all : u ≡ y.left ++ k.ParenRight ∷ y.is_right.right =
+    y.split ∙ ap (λ z. y.left ++ z) (word_is mark.ParenRight (IsCalls (suc (suc n)) y.first) y.right b y.is_right) in
     subst (λ z. TermBy (suc n) k.ParenLeft z b) (sym all) (TermBy.by_paren y.is_left y.is_right.is_right)
 
-paren_from : (n : ℕ) (u : Kinds) (b : Expr) → TermBy (suc n) k.ParenLeft u b → ParenTail n u b ⊎ Then (Word mark.ParenRight) (λ _. IsCalls (suc (suc n)) e.Nil) u b
+paren_from : (n : ℕ) (u : Kinds) (b : Expr) → TermBy (suc n) k.ParenLeft u b → ParenTail n u b ⊎ Then (Word mark.ParenRight)
+    (λ _. IsCalls (suc (suc n)) e.Nil) u b
 paren_from n u b (TermBy.by_empty {us = us} y) = inr (worded mark.ParenRight (IsCalls (suc (suc n)) e.Nil) us b y)
-paren_from n u b (TermBy.by_paren {us = us} {vs = vs} {a = a} x y) = inl (record { left = us; right = k.ParenRight ∷ vs; split = refl; first = a; is_left = x; is_right = worded mark.ParenRight (IsCalls (suc (suc n)) a) vs b y })
+paren_from n u b (TermBy.by_paren {us = us} {vs = vs} {a = a} x y) =
+    inl (record {
+      left = us;
+      right = k.ParenRight ∷ vs;
+      split = refl;
+      first = a;
+      is_left = x;
+      is_right =
+          worded mark.ParenRight (IsCalls (suc (suc n)) a) vs b y;
+    })
 
 paren_begins : (n : ℕ) (u : Kinds) (b : Expr) → ParenTail n u b → Begins begins_expr u
 paren_begins n u b y = subst (Begins begins_expr) (sym y.split) (begins_more begins_expr y.left y.right (expr_begins y.is_left))
@@ -81,10 +94,13 @@ block_same n = record { to = to; from = from }
   where
     to : (u : Kinds) (b : Expr) → BlockTail n u b → TermBy (suc n) k.SquareLeft u b
     to u b y =
-        let ends : (y.is_left.right ≡ k.SquareRight ∷ []) × (y.is_left.first ≡ y.first) = close_is mark.SquareRight y.is_left.first y.is_left.right y.first y.is_left.is_right in
+        let ends : (y.is_left.right ≡ k.SquareRight ∷ []) × (y.is_left.first ≡ y.first) =
+        close_is mark.SquareRight y.is_left.first y.is_left.right y.first y.is_left.is_right in
         let all : u ≡ y.is_left.left ++ k.SquareRight ∷ y.right =
-        y.split ∙ ap (λ z. z ++ y.right) (y.is_left.split ∙ ap (λ z. y.is_left.left ++ z) ends.0) ∙ append_assoc y.is_left.left (k.SquareRight ∷ []) y.right in
-        subst (λ z. TermBy (suc n) k.SquareLeft z b) (sym all) (TermBy.by_block y.is_left.is_left (subst (λ z. IsCalls (suc (suc n)) (e.Block z) y.right b) (sym ends.1) y.is_right))
+        y.split ∙ ap (λ z. z ++ y.right) (y.is_left.split ∙ ap (λ z. y.is_left.left ++ z) ends.0) ∙ append_assoc y.is_left.left
+        (k.SquareRight ∷ []) y.right in
+        subst (λ z. TermBy (suc n) k.SquareLeft z b) (sym all)
+        (TermBy.by_block y.is_left.is_left (subst (λ z. IsCalls (suc (suc n)) (e.Block z) y.right b) (sym ends.1) y.is_right))
 
     from : (u : Kinds) (b : Expr) → TermBy (suc n) k.SquareLeft u b → BlockTail n u b
     from u b (TermBy.by_block {us = us} {vs = vs} {xs = xs} x y) = record {
@@ -99,12 +115,14 @@ block_same n = record { to = to; from = from }
 exact_block_atom : (n : ℕ) (inner : Inner) → Below n inner → (m : ℕ) → Exact (suc m) (BlockTail n) goes_term (block_atom (suc n) inner)
 unfolding block_atom
 exact_block_atom n inner below m =
-    exact_then (BlockEnd n) (λ _. false) (λ xs. IsCalls (suc (suc n)) (e.Block xs)) goes_term (λ _ y v b t f. no_follow (y ++ v)) m inner.block (λ xs. calls (suc n) inner (e.Block xs))
+    exact_then (BlockEnd n) (λ _. false) (λ xs. IsCalls (suc (suc n)) (e.Block xs)) goes_term (λ _ y v b t f. no_follow (y ++ v)) m inner.block
+    (λ xs. calls (suc n) inner (e.Block xs))
     (below.block (λ _. false) (suc m)) (λ xs. exact_calls (suc n) inner below (e.Block xs) m)
 
 -- ---- NEW
 
-exact_new : (n : ℕ) (inner : Inner) → Below n inner → (ts : Kinds) → Answers (TermBy (suc n) (k.Keyword w.KwNew)) goes_term ts (new_term (suc n) inner ts)
+exact_new : (n : ℕ) (inner : Inner) → Below n inner → (ts : Kinds) → Answers (TermBy (suc n) (k.Keyword w.KwNew)) goes_term ts
+    (new_term (suc n) inner ts)
 unfolding new_term
 exact_new n inner below ts =
     along (Then (IsTerm n) (λ a. Pure (e.New a))) (TermBy (suc n) (k.Keyword w.KwNew)) goes_term ts (new_term (suc n) inner ts)
@@ -127,12 +145,15 @@ case_same n = record { to = to; from = from }
         let z = y.is_right.is_right in
         let arms = z.is_left in
         let ends : (arms.right ≡ k.Keyword w.KwEnd ∷ []) × (arms.first ≡ z.first) = close_is mark.End arms.first arms.right z.first arms.is_right in
-        let inner : y.is_right.right ≡ arms.left ++ k.Keyword w.KwEnd ∷ [] = pure_split (e.Case y.first z.first) z.left y.is_right.right z.right b z.split z.is_right ∙ arms.split ∙ ap (λ s. arms.left ++ s) ends.0 in
+        let inner : y.is_right.right ≡ arms.left ++ k.Keyword w.KwEnd ∷ [] = pure_split (e.Case y.first z.first) z.left y.is_right.right z.right b
+        z.split z.is_right ∙ arms.split ∙ ap (λ s. arms.left ++ s) ends.0 in
         let all : u ≡ y.left ++ k.Keyword w.KwOf ∷ arms.left ++ k.Keyword w.KwEnd ∷ [] =
-        y.split ∙ ap (λ s. y.left ++ s) (word_is mark.Of (Then (ArmsEnd n) (λ xs. Pure (e.Case y.first xs))) y.right b y.is_right ∙ ap (λ s. k.Keyword w.KwOf ∷ s) inner)
+        y.split ∙ ap (λ s. y.left ++ s) (word_is mark.Of (Then (ArmsEnd n) (λ xs. Pure (e.Case y.first xs))) y.right b y.is_right
+        ∙ ap (λ s. k.Keyword w.KwOf ∷ s) inner)
         ∙ sym (append_assoc y.left (k.Keyword w.KwOf ∷ arms.left) (k.Keyword w.KwEnd ∷ [])) in
         subst (λ s. TermBy (suc n) (k.Keyword w.KwCase) s b) (sym all)
-        (subst (λ s. TermBy (suc n) (k.Keyword w.KwCase) (y.left ++ k.Keyword w.KwOf ∷ arms.left ++ k.Keyword w.KwEnd ∷ []) s) (ap (λ s. e.Case y.first s) ends.1 ∙ z.is_right.same) (TermBy.by_case y.is_left arms.is_left))
+        (subst (λ s. TermBy (suc n) (k.Keyword w.KwCase) (y.left ++ k.Keyword w.KwOf ∷ arms.left ++ k.Keyword w.KwEnd ∷ []) s)
+        (ap (λ s. e.Case y.first s) ends.1 ∙ z.is_right.same) (TermBy.by_case y.is_left arms.is_left))
 
     from : (u : Kinds) (b : Expr) → TermBy (suc n) (k.Keyword w.KwCase) u b → CaseTail n u b
     from u b (TermBy.by_case {us = us} {vs = vs} {a = a} {xs = xs} x y) = record {
@@ -142,7 +163,8 @@ case_same n = record { to = to; from = from }
       first = a;
       is_left = x;
       is_right = worded mark.Of (Then (ArmsEnd n) (λ zs. Pure (e.Case a zs))) (vs ++ k.Keyword w.KwEnd ∷ []) (e.Case a xs)
-          (pured (ArmsEnd n) (λ zs. e.Case a zs) (vs ++ k.Keyword w.KwEnd ∷ []) xs (record { left = vs; right = k.Keyword w.KwEnd ∷ []; split = refl; first = xs; is_left = y; is_right = closes mark.End xs }));
+          (pured (ArmsEnd n) (λ zs. e.Case a zs) (vs ++ k.Keyword w.KwEnd ∷ []) xs
+          (record { left = vs; right = k.Keyword w.KwEnd ∷ []; split = refl; first = xs; is_left = y; is_right = closes mark.End xs }));
     }
 
 exact_case : (n : ℕ) (inner : Inner) → Below (suc n) inner → (m : ℕ) → Exact (suc m) (CaseTail (suc n)) goes_term (case_term (suc (suc n)) inner)
@@ -151,7 +173,8 @@ exact_case n inner below m =
     exact_then (IsExpr (suc n)) goes_on (λ a. Then (Word mark.Of) (λ _. Then (ArmsEnd (suc n)) (λ xs. Pure (e.Case a xs)))) goes_term
     (λ a y v b t g. word_follows goes_on mark.Of refl (Then (ArmsEnd (suc n)) (λ xs. Pure (e.Case a xs))) y v b t) m inner.expr
     (λ a ts. and_then (expect mark.Of ts) (λ _ us. and_then (inner.arms us) (λ xs. pure (e.Case a xs)))) (below.expr (suc m))
-    (λ a. exact_word mark.Of (Then (ArmsEnd (suc n)) (λ xs. Pure (e.Case a xs))) goes_term m (λ us. and_then (inner.arms us) (λ xs. pure (e.Case a xs)))
+    (λ a. exact_word mark.Of (Then (ArmsEnd (suc n)) (λ xs. Pure (e.Case a xs))) goes_term m
+    (λ us. and_then (inner.arms us) (λ xs. pure (e.Case a xs)))
     (exact_made (ArmsEnd (suc n)) goes_term (λ xs. e.Case a xs) m inner.arms (below.arms goes_term (suc m))))
 
 -- ---- whole
@@ -236,12 +259,16 @@ term_at n inner below (k.Name t) ts = by_atom n ts inner below (k.Name t) (e.Var
 term_at n inner below (k.Keyword w.KwSelf) ts = by_atom n ts inner below (k.Keyword w.KwSelf) e.Myself (myself_same n)
 term_at zero inner below k.ParenLeft ts =
     by_token 0 ts k.ParenLeft (either mark.ParenRight (calls 0 inner e.Nil) (λ us. Err us) ts)
-    (along (Then (Word mark.ParenRight) (λ _. IsCalls 1 e.Nil)) (TermBy 0 k.ParenLeft) goes_term ts (either mark.ParenRight (calls 0 inner e.Nil) (λ us. Err us) ts) shut_same
-    (exact_only mark.ParenRight (IsCalls 1 e.Nil) goes_term (length ts) (calls 0 inner e.Nil) (exact_calls 0 inner below e.Nil (length ts)) ts (omega arith)))
+    (along (Then (Word mark.ParenRight) (λ _. IsCalls 1 e.Nil)) (TermBy 0 k.ParenLeft) goes_term ts
+    (either mark.ParenRight (calls 0 inner e.Nil) (λ us. Err us) ts) shut_same
+    (exact_only mark.ParenRight (IsCalls 1 e.Nil) goes_term (length ts) (calls 0 inner e.Nil)
+    (exact_calls 0 inner below e.Nil (length ts)) ts (omega arith)))
 term_at (suc n) inner below k.ParenLeft ts =
     rw not_last (by_token (suc n) ts k.ParenLeft (either mark.ParenRight (calls (suc n) inner e.Nil) (paren_inside (suc n) inner) ts)
-    (exact_branch mark.ParenRight (IsCalls (suc (suc n)) e.Nil) (ParenTail n) (TermBy (suc n) k.ParenLeft) goes_term (paren_to n) (λ u b y. TermBy.by_empty y) (paren_from n)
-    (λ b y off. paren_begins n [] b y) (λ u b y c. apart_right u (paren_begins n u b y) c) (suc (length ts)) (calls (suc n) inner e.Nil) (paren_inside (suc n) inner)
+    (exact_branch mark.ParenRight (IsCalls (suc (suc n)) e.Nil) (ParenTail n) (TermBy (suc n) k.ParenLeft) goes_term (paren_to n)
+    (λ u b y. TermBy.by_empty y) (paren_from n)
+    (λ b y off. paren_begins n [] b y) (λ u b y c. apart_right u (paren_begins n u b y) c) (suc (length ts)) (calls (suc n) inner e.Nil)
+    (paren_inside (suc n) inner)
     (exact_calls (suc n) inner below e.Nil (length ts)) (exact_paren n inner below (suc (length ts))) ts (omega arith)))
 term_at zero inner below k.SquareLeft ts = not_here 0 ts k.SquareLeft (λ us b h. no_block us b h)
   where
@@ -249,12 +276,14 @@ term_at zero inner below k.SquareLeft ts = not_here 0 ts k.SquareLeft (λ us b h
     no_block us b h = elim h [ ]
 term_at (suc n) inner below k.SquareLeft ts =
     rw not_last (by_token (suc n) ts k.SquareLeft (block_atom (suc n) inner ts)
-    (along (BlockTail n) (TermBy (suc n) k.SquareLeft) goes_term ts (block_atom (suc n) inner ts) (block_same n) (exact_block_atom n inner below (length ts) ts (omega arith))))
+    (along (BlockTail n) (TermBy (suc n) k.SquareLeft) goes_term ts (block_atom (suc n) inner ts) (block_same n)
+    (exact_block_atom n inner below (length ts) ts (omega arith))))
 term_at zero inner below (k.Keyword w.KwNew) ts = not_here 0 ts (k.Keyword w.KwNew) (λ us b h. no_new us b h)
   where
     no_new : (us : Kinds) (b : Expr) → TermBy 0 (k.Keyword w.KwNew) us b → ⊥
     no_new us b h = elim h [ ]
-term_at (suc n) inner below (k.Keyword w.KwNew) ts = rw not_last (by_token (suc n) ts (k.Keyword w.KwNew) (new_term (suc n) inner ts) (exact_new n inner below ts))
+term_at (suc n) inner below (k.Keyword w.KwNew) ts =
+    rw not_last (by_token (suc n) ts (k.Keyword w.KwNew) (new_term (suc n) inner ts) (exact_new n inner below ts))
 term_at zero inner below (k.Keyword w.KwCase) ts = not_here 0 ts (k.Keyword w.KwCase) (λ us b h. no_case us b h)
   where
     no_case : (us : Kinds) (b : Expr) → TermBy 0 (k.Keyword w.KwCase) us b → ⊥
@@ -262,17 +291,20 @@ term_at zero inner below (k.Keyword w.KwCase) ts = not_here 0 ts (k.Keyword w.Kw
 term_at (suc zero) inner below (k.Keyword w.KwCase) ts = not_here 1 ts (k.Keyword w.KwCase) one_arm
 term_at (suc (suc n)) inner below (k.Keyword w.KwCase) ts =
     rw two_left (by_token (suc (suc n)) ts (k.Keyword w.KwCase) (case_term (suc (suc n)) inner ts)
-    (along (CaseTail (suc n)) (TermBy (suc (suc n)) (k.Keyword w.KwCase)) goes_term ts (case_term (suc (suc n)) inner ts) (case_same (suc n)) (exact_case n inner below (length ts) ts (omega arith))))
+    (along (CaseTail (suc n)) (TermBy (suc (suc n)) (k.Keyword w.KwCase)) goes_term ts (case_term (suc (suc n)) inner ts) (case_same (suc n))
+    (exact_case n inner below (length ts) ts (omega arith))))
 term_at zero inner below (k.Keyword w.KwIf) ts = not_here 0 ts (k.Keyword w.KwIf) (λ us b h. no_if us b h)
   where
     no_if : (us : Kinds) (b : Expr) → TermBy 0 (k.Keyword w.KwIf) us b → ⊥
     no_if us b h = elim h [ ]
-term_at (suc n) inner below (k.Keyword w.KwIf) ts = rw not_last (by_token (suc n) ts (k.Keyword w.KwIf) (if_term (suc n) inner ts) (exact_if n inner below ts))
+term_at (suc n) inner below (k.Keyword w.KwIf) ts =
+    rw not_last (by_token (suc n) ts (k.Keyword w.KwIf) (if_term (suc n) inner ts) (exact_if n inner below ts))
 term_at n inner below k.Backslash ts = not_here n ts k.Backslash (no_abs n)
   where
     no_abs : (n : ℕ) (us : Kinds) (b : Expr) → TermBy n k.Backslash us b → ⊥
     no_abs n us b h = elim h [ ]
-term_at n inner below t ts = no_way (IsTerm n) goes_term t ts (term_ends n) (λ b y. term_begins y) (λ u b y. let no : false ≡ true = term_begins y in cc)
+term_at n inner below t ts = no_way (IsTerm n) goes_term t ts (term_ends n) (λ b y. term_begins y)
+    (λ u b y. let no : false ≡ true = term_begins y in cc)
 
 pub exact_term : (n : ℕ) (inner : Inner) → Levels n inner → (m : ℕ) → Exact m (IsTerm n) goes_term (term n inner)
 unfolding term

@@ -8,7 +8,8 @@ use Rattle.hum_parse.specs.declared.tokens.Stop.{Stop}
 use Rattle.hum_parse.specs.declared.grammar.Form.{Form}
 use Rattle.hum_parse.specs.Nests.{Nests}
 
-pub fewer : (n : ℕ) {pre : Global → MutBor Kinds → ℕ → Form → Type 0} {post : Global → MutBor Kinds → ℕ → Form → Result Expr Stop → MutBor Kinds → Type 0}
+pub fewer : (n : ℕ) {pre : Global → MutBor Kinds → ℕ → Form → Type 0}
+    {post : Global → MutBor Kinds → ℕ → Form → Result Expr Stop → MutBor Kinds → Type 0}
     → Nests n pre post → Nests (n - 1) pre post
 fewer n nests = record {
   callable = λ alloc old m asked less. nests.callable alloc old m asked (omega arith);

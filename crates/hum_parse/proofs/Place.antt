@@ -16,7 +16,8 @@ take_front (x ∷ xs) ys = ap (λ z. x ∷ z) (take_front xs ys)
 
 take_past : (xs ys : Kinds) (k : ℕ) → take (length xs + k) (xs ++ ys) ≡ xs ++ take k ys
 take_past [] ys k = let none : 0 + k ≡ k = omega arith in ap (λ z. take z ys) none
-take_past (x ∷ xs) ys k = let more : suc (length xs) + k ≡ suc (length xs + k) = omega arith in ap (λ z. take z (x ∷ (xs ++ ys))) more ∙ ap (λ z. x ∷ z) (take_past xs ys k)
+take_past (x ∷ xs) ys k = let more : suc (length xs) + k ≡ suc (length xs + k) = omega arith in
+    ap (λ z. take z (x ∷ (xs ++ ys))) more ∙ ap (λ z. x ∷ z) (take_past xs ys k)
 
 taken_head : (rest more : Kinds) (k : ℕ) → 0 < k → k ≤ length rest → SameHead rest (take k rest ++ more)
 taken_head [] more k a b = absurd (omega arith)
@@ -45,12 +46,14 @@ module _ {A : Type 0} (T : Language A) (g : TokenKind → Bool) where
       let over : 0 < k - length front = omega arith in
       let fits : k - length front ≤ length rest = omega (arith, length-append front rest) in
       let at : k ≡ length front + (k - length front) = omega arith in
-      let cut : take k (front ++ rest) ≡ front ++ take (k - length front) rest = ap (λ z. take z (front ++ rest)) at ∙ take_past front rest (k - length front) in
+      let cut : take k (front ++ rest) ≡ front ++ take (k - length front) rest =
+      ap (λ z. take z (front ++ rest)) at ∙ take_past front rest (k - length front) in
       let more = take (k - length front) rest ++ kinds x.0 in
       w more (front ++ more) [] x.1 (taken_head rest (kinds x.0) (k - length front) over fits) (sym (append-nil _))
       (subst (λ z. T z x.1) (ap (λ z. z ++ kinds x.0) cut ∙ append_assoc front (take (k - length front) rest) (kinds x.0)) x.2) tt
 
-  whole : (front rest : Kinds) (w : (more u v : Kinds) (b : A) → SameHead rest more → front ++ more ≡ u ++ v → T u b → Avoids g v → ⊥) → (b : A) → T (front ++ rest) b → ⊥
+  whole : (front rest : Kinds) (w : (more u v : Kinds) (b : A) → SameHead rest more → front ++ more ≡ u ++ v → T u b → Avoids g v → ⊥) → (b : A)
+      → T (front ++ rest) b → ⊥
   whole front [] w b t = w [] (front ++ []) [] b tt (sym (append-nil (front ++ []))) t tt
   whole front (k ∷ rest) w b t = w (k ∷ rest) (front ++ k ∷ rest) [] b refl (sym (append-nil (front ++ k ∷ rest))) t tt
 

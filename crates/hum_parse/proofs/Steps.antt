@@ -204,9 +204,11 @@ narrowed h Q T g ts (Ok p) to from a w = record {
   unique = λ more u v b same e t f. either_way more u v b same e (from u b t) f;
 }
   where
-    either_way : (more u v : Kinds) (b : _) → SameHead p.1 more → w.front ++ more ≡ u ++ v → Q u b ⊎ Begins h u → Avoids g v → (u ≡ w.front) × (p.0 ≡ b)
+    either_way : (more u v : Kinds) (b : _) → SameHead p.1 more → w.front ++ more ≡ u ++ v → Q u b ⊎ Begins h u → Avoids g v
+        → (u ≡ w.front) × (p.0 ≡ b)
     either_way more u v b same e (inl q) f = w.unique more u v b same e q f
-    either_way more u v b same e (inr x) f = absurd (clash h ts (w.front ++ more) u v a (subst (λ z. SameHead z (w.front ++ more)) (sym w.split) (same_behind w.front p.1 more same)) e x)
+    either_way more u v b same e (inr x) f =
+        absurd (clash h ts (w.front ++ more) u v a (subst (λ z. SameHead z (w.front ++ more)) (sym w.split) (same_behind w.front p.1 more same)) e x)
 narrowed h Q T g ts (Err rest) to from a w = record {
   front = w.front;
   split = w.split;
@@ -219,7 +221,8 @@ narrowed h Q T g ts (Err rest) to from a w = record {
   where
     either_way : (more u v : Kinds) (b : _) → SameHead rest more → w.front ++ more ≡ u ++ v → Q u b ⊎ Begins h u → Avoids g v → ⊥
     either_way more u v b same e (inl q) f = w.dead more u v b same e q f
-    either_way more u v b same e (inr x) f = clash h ts (w.front ++ more) u v a (subst (λ z. SameHead z (w.front ++ more)) (sym w.split) (same_behind w.front rest more same)) e x
+    either_way more u v b same e (inr x) f =
+        clash h ts (w.front ++ more) u v a (subst (λ z. SameHead z (w.front ++ more)) (sym w.split) (same_behind w.front rest more same)) e x
 
 -- this value and nothing more, or the token and what may stand behind it
 abbrev pub Or : {A : Type 0} → Mark → A → Language A → Language A
@@ -263,7 +266,8 @@ pub no_follow : (v : Kinds) → Avoids (λ _. false) v
 no_follow [] = tt
 no_follow (t ∷ ts) = refl
 
-pub word_follows : {A : Type 0} (g : TokenKind → Bool) (x : Mark) → g (stands x) ≡ false → (T : Language A) (y v : Kinds) (b : A) → Then (Word x) (λ _. T) y b → Avoids g (y ++ v)
+pub word_follows : {A : Type 0} (g : TokenKind → Bool) (x : Mark) → g (stands x) ≡ false → (T : Language A) (y v : Kinds) (b : A) → Then (Word x)
+    (λ _. T) y b → Avoids g (y ++ v)
 word_follows g x off T y v b t = subst (λ z. Avoids g (z ++ v)) (sym (t.split ∙ ap (λ z. z ++ t.right) t.is_left)) off
 
 abbrev pub Close : {A : Type 0} → Mark → A → Language A
@@ -275,9 +279,11 @@ closes x a = record { left = stands x ∷ []; right = []; split = refl; first = 
 pub close_is : {A : Type 0} (x : Mark) (a : A) (u : Kinds) (b : A) → Close x a u b → (u ≡ stands x ∷ []) × (a ≡ b)
 close_is x a u b y = (y.split ∙ ap (λ z. z ++ y.right) y.is_left ∙ ap (λ z. stands x ∷ z) y.is_right.none, y.is_right.same)
 
-pub exact_close : {A : Type 0} (x : Mark) (a : A) (g : TokenKind → Bool) (m : ℕ) → Exact (suc m) (Close x a) g (λ ts. and_then (expect x ts) (λ _. pure a))
+pub exact_close : {A : Type 0} (x : Mark) (a : A) (g : TokenKind → Bool) (m : ℕ) → Exact (suc m) (Close x a) g
+    (λ ts. and_then (expect x ts) (λ _. pure a))
 exact_close x a g m =
-    exact_then (Word x) (λ _. false) (λ _. Pure a) g (λ _ y v b t f. no_follow (y ++ v)) m (expect x) (λ _. pure a) (λ ts h. exact_expect x (λ _. false) ts) (λ _ ts h. exact_pure a g ts)
+    exact_then (Word x) (λ _. false) (λ _. Pure a) g (λ _ y v b t f. no_follow (y ++ v)) m (expect x) (λ _. pure a)
+    (λ ts h. exact_expect x (λ _. false) ts) (λ _ ts h. exact_pure a g ts)
 
 module _ {A : Type 0} (x : Mark) (a : A) (Q T : Language A) (g : TokenKind → Bool)
     (to : (u : Kinds) (b : A) → Q u b → T u b) (closed : T (stands x ∷ []) a) (from : (u : Kinds) (b : A) → T u b → Q u b ⊎ Close x a u b)
@@ -291,7 +297,8 @@ module _ {A : Type 0} (x : Mark) (a : A) (Q T : Language A) (g : TokenKind → B
 
   else_behind : (t : TokenKind) → is x t ≡ true → (u : Kinds) (b : A) → Q (t ∷ u) b ⊎ Close x a (t ∷ u) b → Pure a u b
   else_behind t e u b (inl q) = absurd (apart (t ∷ u) b q e)
-  else_behind t e u b (inr y) = let all : t ∷ u ≡ stands x ∷ [] = (close_is x a (t ∷ u) b y).0 in record { none = (let tails : u ≡ [] = cc in tails); same = (close_is x a (t ∷ u) b y).1 }
+  else_behind t e u b (inr y) = let all : t ∷ u ≡ stands x ∷ [] = (close_is x a (t ∷ u) b y).0 in
+      record { none = (let tails : u ≡ [] = cc in tails); same = (close_is x a (t ∷ u) b y).1 }
 
   else_to : (t : TokenKind) → t ≡ stands x → (u : Kinds) (b : A) → Pure a u b → T (t ∷ u) b
   else_to t e u b y = subst (λ z. T (t ∷ u) z) y.same (subst (λ z. T (t ∷ z) a) (sym y.none) (subst (λ z. T (z ∷ []) a) (sym e) closed))
@@ -300,7 +307,8 @@ module _ {A : Type 0} (x : Mark) (a : A) (Q T : Language A) (g : TokenKind → B
       → Answers T g (t ∷ ts) (cond seen (Ok (a, ts)) (q (t ∷ ts)))
   else_at m q xs t ts h true e =
       took T g t ts (Ok (a, ts)) (λ b y off. else_some b (from [] b y))
-      (along (Pure a) (λ us. T (t ∷ us)) g ts (Ok (a, ts)) (record { to = else_to t (is_stands x t e); from = λ u b y. else_behind t e u b (from (t ∷ u) b y) }) (exact_pure a g ts))
+      (along (Pure a) (λ us. T (t ∷ us)) g ts (Ok (a, ts))
+      (record { to = else_to t (is_stands x t e); from = λ u b y. else_behind t e u b (from (t ∷ u) b y) }) (exact_pure a g ts))
   else_at m q xs t ts h false e = narrowed (is x) Q T g (t ∷ ts) (q (t ∷ ts)) to else_from e (xs (t ∷ ts) h)
 
   pub exact_else : (m : ℕ) (q : Parser A) → Exact (suc m) Q g q → Exact (suc m) T g (either x (pure a) q)
@@ -336,14 +344,20 @@ module _ {A : Type 0} (x : Mark) (P Q T : Language A) (g : TokenKind → Bool)
 
   branch_behind : (t : TokenKind) → is x t ≡ true → (u : Kinds) (b : A) → Q (t ∷ u) b ⊎ Then (Word x) (λ _. P) (t ∷ u) b → P u b
   branch_behind t e u b (inl q) = absurd (apart (t ∷ u) b q e)
-  branch_behind t e u b (inr y) = let all : t ∷ u ≡ stands x ∷ y.right = branch_all (t ∷ u) b y in let tails : y.right ≡ u = cc in subst (λ z. P z b) tails y.is_right
+  branch_behind t e u b (inr y) = let all : t ∷ u ≡ stands x ∷ y.right = branch_all (t ∷ u) b y in let tails : y.right ≡ u =
+      cc in subst (λ z. P z b) tails y.is_right
 
-  branch_at : (m : ℕ) (ps q : Parser A) → Exact m P g ps → Exact (suc m) Q g q → (t : TokenKind) (ts : Kinds) → length (t ∷ ts) < suc m → (seen : Bool) → is x t ≡ seen
+  branch_at : (m : ℕ) (ps q : Parser A) → Exact m P g ps → Exact (suc m) Q g q → (t : TokenKind) (ts : Kinds) → length (t ∷ ts) < suc m
+      → (seen : Bool) → is x t ≡ seen
       → Answers T g (t ∷ ts) (cond seen (ps ts) (q (t ∷ ts)))
   branch_at m ps q xp xq t ts h true e =
       took T g t ts (ps ts) (λ b y off. branch_some t (is_stands x t e) b (from [] b y) off)
       (along P (λ us. T (t ∷ us)) g ts (ps ts)
-      (record { to = λ u b y. subst (λ z. T (z ∷ u) b) (sym (is_stands x t e)) (to_word u b y); from = λ u b y. branch_behind t e u b (from (t ∷ u) b y) })
+      (record {
+        to = λ u b y. subst (λ z. T (z ∷ u) b) (sym (is_stands x t e)) (to_word u b y);
+        from =
+            λ u b y. branch_behind t e u b (from (t ∷ u) b y);
+      })
       (xp ts (let less : length ts < m = omega arith in less)))
   branch_at m ps q xp xq t ts h false e = narrowed (is x) Q T g (t ∷ ts) (q (t ∷ ts)) to branch_from e (xq (t ∷ ts) h)
 
@@ -351,7 +365,8 @@ module _ {A : Type 0} (x : Mark) (P Q T : Language A) (g : TokenKind → Bool)
   exact_branch m ps q xp xq [] h = narrowed (is x) Q T g [] (q []) to branch_from tt (xq [] h)
   exact_branch m ps q xp xq (t ∷ ts) h = branch_at m ps q xp xq t ts h (is x t) refl
 
-only_at : {A : Type 0} (ps : Parser A) (seen : Bool) (ts us : Kinds) → cond seen (ps us) (Err ts) ≡ and_then (taken {A = Unit {0}} tt seen ts us) (λ _. ps)
+only_at : {A : Type 0} (ps : Parser A) (seen : Bool) (ts us : Kinds) → cond seen (ps us) (Err ts) ≡ and_then
+    (taken {A = Unit {0}} tt seen ts us) (λ _. ps)
 only_at ps true ts us = refl
 only_at ps false ts us = refl
 
@@ -359,12 +374,14 @@ only_at ps false ts us = refl
 pub exact_only : {A : Type 0} (x : Mark) (P : Language A) (g : TokenKind → Bool) (m : ℕ) (ps : Parser A) → Exact (suc m) P g ps
     → Exact (suc m) (Then (Word x) (λ _. P)) g (either x ps (λ ts. Err ts))
 exact_only x P g m ps xs ts h = subst (Answers (Then (Word x) (λ _. P)) g ts) (sym (only_at ps (sees x ts) ts (next ts)))
-    (exact_then (Word x) (λ _. false) (λ _. P) g (λ _ y v b t f. no_follow (y ++ v)) m (expect x) (λ _. ps) (λ us l. exact_expect x (λ _. false) us) (λ _. xs) ts h)
+    (exact_then (Word x) (λ _. false) (λ _. P) g (λ _ y v b t f. no_follow (y ++ v)) m (expect x) (λ _. ps)
+    (λ us l. exact_expect x (λ _. false) us) (λ _. xs) ts h)
 
 -- the token, and then the rest
 pub exact_word : {A : Type 0} (x : Mark) (P : Language A) (g : TokenKind → Bool) (m : ℕ) (ps : Parser A) → Exact (suc m) P g ps
     → Exact (suc m) (Then (Word x) (λ _. P)) g (λ ts. and_then (expect x ts) (λ _. ps))
-exact_word x P g m ps xs = exact_then (Word x) (λ _. false) (λ _. P) g (λ _ y v b t f. no_follow (y ++ v)) m (expect x) (λ _. ps) (λ us l. exact_expect x (λ _. false) us) (λ _. xs)
+exact_word x P g m ps xs = exact_then (Word x) (λ _. false) (λ _. P) g (λ _ y v b t f. no_follow (y ++ v)) m (expect x) (λ _. ps)
+    (λ us l. exact_expect x (λ _. false) us) (λ _. xs)
 
 -- ---- building and taking apart
 
@@ -381,8 +398,10 @@ pure_split a left u right b e x = e ∙ ap (λ z. left ++ z) x.none ∙ append-n
 pub pured : {A B : Type 0} (R : Language A) (f : A → B) (u : Kinds) (a : A) → R u a → Then R (λ x. Pure (f x)) u (f a)
 pured R f u a r = record { left = u; right = []; split = sym (append-nil u); first = a; is_left = r; is_right = record { none = refl; same = refl } }
 
-pub unpured : {A B : Type 0} (R : Language A) (f : A → B) (T : Language B) → ((u : Kinds) (a : A) → R u a → T u (f a)) → (u : Kinds) (b : B) → Then R (λ x. Pure (f x)) u b → T u b
-unpured R f T made u b y = subst (λ z. T z b) (sym (pure_split (f y.first) y.left u y.right b y.split y.is_right)) (subst (λ z. T y.left z) y.is_right.same (made y.left y.first y.is_left))
+pub unpured : {A B : Type 0} (R : Language A) (f : A → B) (T : Language B) → ((u : Kinds) (a : A) → R u a → T u (f a)) → (u : Kinds) (b : B)
+    → Then R (λ x. Pure (f x)) u b → T u b
+unpured R f T made u b y = subst (λ z. T z b) (sym (pure_split (f y.first) y.left u y.right b y.split y.is_right))
+    (subst (λ z. T y.left z) y.is_right.same (made y.left y.first y.is_left))
 
 pub pure_follows : {A B : Type 0} (g : TokenKind → Bool) (f : A → B) (a : A) (y v : Kinds) (b : B) → Pure (f a) y b → Avoids g v → Avoids g (y ++ v)
 pure_follows g f a y v b x h = subst (λ z. Avoids g (z ++ v)) (sym x.none) h

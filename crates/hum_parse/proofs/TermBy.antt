@@ -22,7 +22,8 @@ pub data TermBy : ℕ → TokenKind → Kinds → Expr → Type 0 where
   by_name : {n : ℕ} {t : List ℕ} {us : Kinds} {b : Expr} → IsCalls (suc n) (e.Var t) us b → TermBy n (k.Name t) us b
   by_myself : {n : ℕ} {us : Kinds} {b : Expr} → IsCalls (suc n) e.Myself us b → TermBy n (k.Keyword w.KwSelf) us b
   by_empty : {n : ℕ} {us : Kinds} {b : Expr} → IsCalls (suc n) e.Nil us b → TermBy n k.ParenLeft (k.ParenRight ∷ us) b
-  by_paren : {n : ℕ} {us vs : Kinds} {a b : Expr} → IsExpr n us a → IsCalls (suc (suc n)) a vs b → TermBy (suc n) k.ParenLeft (us ++ k.ParenRight ∷ vs) b
+  by_paren : {n : ℕ} {us vs : Kinds} {a b : Expr} → IsExpr n us a → IsCalls (suc (suc n)) a vs b → TermBy (suc n) k.ParenLeft
+      (us ++ k.ParenRight ∷ vs) b
   by_block : {n : ℕ} {us vs : Kinds} {xs : List Stmt} {b : Expr} → IsStmts n us xs → IsCalls (suc (suc n)) (e.Block xs) vs b
       → TermBy (suc n) k.SquareLeft (us ++ k.SquareRight ∷ vs) b
   by_new : {n : ℕ} {us : Kinds} {a : Expr} → IsTerm n us a → TermBy (suc n) (k.Keyword w.KwNew) us (e.New a)
@@ -58,7 +59,8 @@ term_to (by_case x y) = G.case x y
 term_to (by_if x) = G.if x
 term_to (by_else x y) = G.if_else x y
 
-block_first : (n : ℕ) (us vs : Kinds) (xs : List Stmt) (b : Expr) → IsBlock n us xs → IsCalls (suc (suc n)) (e.Block xs) vs b → First (suc n) (us ++ vs) b
+block_first : (n : ℕ) (us vs : Kinds) (xs : List Stmt) (b : Expr) → IsBlock n us xs → IsCalls (suc (suc n)) (e.Block xs) vs b
+    → First (suc n) (us ++ vs) b
 block_first n us vs xs b (G.square {us = ws} y) c = record {
   token = k.SquareLeft;
   rest = ws ++ k.SquareRight ∷ vs;

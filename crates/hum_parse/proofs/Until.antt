@@ -22,8 +22,10 @@ module _ {A : Type 0} (x : Mark) (L : Language A) (h r : TokenKind → Bool)
   next_to found u b y = subst (λ z. Until x L found z b) (sym y.split) (until_more y.is_left y.is_right)
 
   next_from : (found : List A) (u : Kinds) (b : List A) → Until x L found u b → Next found u b ⊎ Close x found u b
-  next_from found u b until_end = inr (record { left = stands x ∷ []; right = []; split = refl; first = tt; is_left = refl; is_right = record { none = refl; same = refl } })
-  next_from found u b (until_more {us = us} {vs = vs} {a = a} l y) = inl (record { left = us; right = vs; split = refl; first = a; is_left = l; is_right = y })
+  next_from found u b until_end =
+      inr (record { left = stands x ∷ []; right = []; split = refl; first = tt; is_left = refl; is_right = record { none = refl; same = refl } })
+  next_from found u b (until_more {us = us} {vs = vs} {a = a} l y) =
+      inl (record { left = us; right = vs; split = refl; first = a; is_left = l; is_right = y })
 
   next_begins : (found : List A) (u : Kinds) (b : List A) → Next found u b → Begins h u
   next_begins found u b y = subst (Begins h) (sym y.split) (begins_more h y.left y.right (begins y.left y.first y.is_left))
@@ -44,12 +46,17 @@ module _ {A : Type 0} (x : Mark) (L : Language A) (h r : TokenKind → Bool)
   none found b y u e until_end = let no : stands x ∷ [] ≡ [] = e in cc
   none found b y u e (until_more {us = us} {vs = vs} {a = a} l z) = subst (Begins h) e (begins_more h us vs (begins us a l))
 
-  pub exact_until : (g : TokenKind → Bool) (p : Parser A) → ((m : ℕ) → Exact m L r p) → (turns : ℕ) (found : List A) → Exact (suc turns) (Until x L found) g (until_from x p turns found)
+  pub exact_until : (g : TokenKind → Bool) (p : Parser A) → ((m : ℕ) → Exact m L r p) → (turns : ℕ) (found : List A) → Exact (suc turns)
+      (Until x L found) g (until_from x p turns found)
   unfolding until_from
-  exact_until g p xs zero found [] k = at_end (Until x L found) g (record { tail = stands x ∷ []; carried = carried_alone x; tree = found; ends = until_end }) (λ b y. none found b y [] refl y)
+  exact_until g p xs zero found [] k =
+      at_end (Until x L found) g (record { tail = stands x ∷ []; carried = carried_alone x; tree = found; ends = until_end })
+      (λ b y. none found b y [] refl y)
   exact_until g p xs zero found (t ∷ ts) k = absurd (omega arith)
   exact_until g p xs (suc turns) found ts k =
-      exact_else x found (Next found) (Until x L found) g (next_to found) until_end (next_from found) (λ b y. next_begins found [] b y) (λ u b y c. apart u (next_begins found u b y) c) (suc turns)
+      exact_else x found (Next found) (Until x L found) g (next_to found) until_end (next_from found) (λ b y. next_begins found [] b y)
+      (λ u b y c. apart u (next_begins found u b y) c) (suc turns)
       (λ us. and_then (p us) (λ a. until_from x p turns (found ++ a ∷ [])))
-      (exact_some L r (λ a. Until x L (found ++ a ∷ [])) g (λ a y v b t f. until_avoids (found ++ a ∷ []) y v b t) (λ a l. begins [] a l) turns p (λ a. until_from x p turns (found ++ a ∷ []))
+      (exact_some L r (λ a. Until x L (found ++ a ∷ [])) g (λ a y v b t f. until_avoids (found ++ a ∷ []) y v b t) (λ a l. begins [] a l) turns p
+      (λ a. until_from x p turns (found ++ a ∷ []))
       (xs (suc (suc turns))) (λ a. exact_until g p xs turns (found ++ a ∷ []))) ts k

@@ -52,7 +52,13 @@ stmt_goes k.Comma h = sym h
 stmt_goes _ h = refl
 
 pub stmt_ends : (n : ℕ) → Ends (IsStmt (suc n))
-stmt_ends n = record { tail = k.Undefined ∷ []; carried = refl; tree = s.Do e.Undef; ends = G.does (G.expr_only (G.item_last (G.chain G.undef G.calls_done))) }
+stmt_ends n = record {
+  tail = k.Undefined ∷ [];
+  carried = refl;
+  tree = s.Do e.Undef;
+  ends =
+      G.does (G.expr_only (G.item_last (G.chain G.undef G.calls_done)));
+}
 
 -- a statement's own words
 abbrev pub is_word : TokenKind → Bool

@@ -11,20 +11,25 @@ refused c = ap (program deepest) (sym c.new-rest.ensures) ∙ (rw c.in-Err-Refus
 
 pub overflow_sub-result : goal.overflow_sub-result
 overflow_sub-result c =
-    let short : length c.program.new.tokens ≤ length (kinds c.args.tokens.now) = shorter_whole (kinds c.args.tokens.now) c.program.new.tokens (refused c) in
+    let short : length c.program.new.tokens ≤ length (kinds c.args.tokens.now) =
+    shorter_whole (kinds c.args.tokens.now) c.program.new.tokens (refused c) in
     omega (arith, c.len.ensures, kinds_length c.args.tokens.now)
 
 pub invariant_of-result : goal.invariant_of-result
 invariant_of-result c = record {
   formed = spelled_formed deepest (kinds c.args.tokens.now) c.in-Ok.statements
-      (found_whole (kinds c.args.tokens.now) c.in-Ok.statements c.program.new.tokens (ap (program deepest) (sym c.new-rest.ensures) ∙ c.in-Ok.ensures)) (carried_kinds c.args.tokens.now);
+      (found_whole (kinds c.args.tokens.now) c.in-Ok.statements c.program.new.tokens
+      (ap (program deepest) (sym c.new-rest.ensures) ∙ c.in-Ok.ensures)) (carried_kinds c.args.tokens.now);
 }
 
 pub returns-in-Ok-clause-found : goal.returns-in-Ok-clause-found
-returns-in-Ok-clause-found c = found_whole (kinds c.args.tokens.now) c.in-Ok.statements c.program.new.tokens (ap (program deepest) (sym c.new-rest.ensures) ∙ c.in-Ok.ensures)
+returns-in-Ok-clause-found c = found_whole (kinds c.args.tokens.now) c.in-Ok.statements c.program.new.tokens
+    (ap (program deepest) (sym c.new-rest.ensures) ∙ c.in-Ok.ensures)
 
 pub returns-in-Ok-clause-only : goal.returns-in-Ok-clause-only
-returns-in-Ok-clause-only c = λ other h. inl (ap (λ z. Ok z) (only_tree (kinds c.args.tokens.now) _ c.program.new.tokens (ap (program deepest) (sym c.new-rest.ensures) ∙ c.in-Ok.ensures) other h))
+returns-in-Ok-clause-only c = λ other h. inl
+    (ap (λ z. Ok z) (only_tree (kinds c.args.tokens.now) _ c.program.new.tokens
+    (ap (program deepest) (sym c.new-rest.ensures) ∙ c.in-Ok.ensures) other h))
 
 pub returns-in-Err-Refused-clause-refused : goal.returns-in-Err-Refused-clause-refused
 returns-in-Err-Refused-clause-refused c = λ at e.

@@ -8,5 +8,6 @@ use Rattle.hum_parse.proofs.grammar.Grammar.arms.Goals as goal
 pub loop-turn-preserved : goal.loop-turn-preserved
 unfolding until_from
 loop-turn-preserved g c =
-    let step = one_more (λ m. until_from mark.End (arm_rule c.args.n (inner_at c.args.n)) m c.loop-turn.found c.loop-turn.tokens) _ c.loop-turn._turn c.loop-turn-test.true c.loop-turn.invariant in
+    let step = one_more (λ m. until_from mark.End (arm_rule c.args.n (inner_at c.args.n)) m c.loop-turn.found c.loop-turn.tokens) _ c.loop-turn._turn
+    c.loop-turn-test.true c.loop-turn.invariant in
     first_of (search rules, grind (arith, common_steps))
