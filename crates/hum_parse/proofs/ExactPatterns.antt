@@ -10,7 +10,7 @@ use Rattle.hum_syntax.specs.Spells as G
 use Rattle.hum_syntax.specs.Spells.{Kinds, IsPterm, IsPats, IsPat, IsTerm, IsExpr}
 use Rattle.hum_parse.specs.declared.tokens.Mark.TheVariants as mark
 use Rattle.hum_parse.specs.Input.{pure, expect, either, and_then, is}
-use Rattle.hum_parse.specs.Rules.{Inner, pterm, pterm_by, pat_inside, pat_value, pats_from, pat, pat_behind, pat_of}
+use Rattle.hum_parse.specs.Rules.{Inner, pterm, pterm_by, pat_paren, pat_inside, pat_value, pats_from, pat, pat_behind, pat_of}
 use Rattle.hum_parse.proofs.Levels.{goes_term, goes_on, avoids_less, Behind, PatBehind, PatsRest, not_last, Below, Levels}
 use Rattle.hum_parse.proofs.Exact.{Language, Avoids, Answers, Exact, Ends, Then, exact_then}
 use Rattle.hum_parse.proofs.Steps.{Same, Pure, Word, Or, Begins, along, took, at_end, no_way, exact_pure, exact_or, is_stands, begins_more, word_follows, Close, closes, exact_close, exact_else, exact_shut, pured, pure_split, exact_made}
@@ -176,7 +176,7 @@ no_value : (u : Kinds) (b : Pat) → IsPterm 0 (k.Dollar ∷ u) b → ⊥
 no_value u b h = elim h [ ]
 
 pterm_at : (n : ℕ) (inner : Inner) → Levels n inner → (t : TokenKind) (ts : Kinds) → Answers (IsPterm n) goes_term (t ∷ ts) (pterm_by n inner t ts)
-unfolding pterm_by
+unfolding pterm_by pat_paren
 pterm_at n inner below k.Wildcard ts = one_token n goes_term ts k.Wildcard p.Any G.p_any only_any
 pterm_at n inner below (k.Name t) ts = one_token n goes_term ts (k.Name t) (p.Bind t) G.p_name (only_name t)
 pterm_at n inner below (k.Number z) ts = one_token n goes_term ts (k.Number z) (p.Num z) G.p_number (only_number z)

@@ -64,6 +64,10 @@ module _ (n : ℕ) (inner : Inner) where
     a ← inner.term
     pure (p.Value a)
 
+  -- after the opening parenthesis
+  unfoldable pub pat_paren : Parser Pat
+  pat_paren = either mark.ParenRight (pure p.Nil) (if n == 0 then refuse else pat_inside)
+
   -- after this token
   unfoldable pub pterm_by : TokenKind → Parser Pat
   pterm_by k.Wildcard = pure p.Any
@@ -75,7 +79,7 @@ module _ (n : ℕ) (inner : Inner) where
   pterm_by (k.Keyword w.KwNil) = pure p.Nil
   pterm_by k.Undefined = pure p.Undef
   pterm_by k.Dollar = if n == 0 then back k.Dollar else pat_value
-  pterm_by k.ParenLeft = either mark.ParenRight (pure p.Nil) (if n == 0 then refuse else pat_inside)
+  pterm_by k.ParenLeft = pat_paren
   pterm_by t = back t
 
   unfoldable pub pterm : Parser Pat

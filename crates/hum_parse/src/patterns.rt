@@ -25,68 +25,66 @@ fn pat_of(mut found: Items<Pat>) -> Pat
 impl<F: Fn(Global, &mut Tokens<'_>, u32, Form) -> Result<Expr, Stop>> Grammar<F> {
     /// A pattern without commas.
     #[cycle(pattern)]
-    #[tactic(auto, unfolding(crate::specs::Rules::pterm, crate::specs::Rules::pterm_by, crate::specs::Rules::pat_value, crate::specs::Rules::pat_inside), using(crate::proofs::Inside::inside_rules))]
-    pub fn pterm(&self, tokens: &mut Tokens<'_>, n: u32) -> Result<Pat, Stop>
+    #[tactic(auto, unfolding(crate::specs::Rules::pterm, crate::specs::Rules::pterm_by))]
+    fn pterm(&self, tokens: &mut Tokens<'_>, n: u32) -> Result<Pat, Stop>
         requires { Nests n (F.pre self.now.below) (F.post self.now.below) }
         ensures { Reads (spec.pterm n (inner_at n) tokens.old) result tokens.new }
     {
         let Some(kind) = tokens.peek() else {
             return Err(Stop::Refused);
         };
-        match kind {
-            TokenKind::Wildcard => {
-                tokens.skip();
-                Ok(Pat::Any)
-            }
-            TokenKind::Name(name) => {
-                tokens.skip();
-                Ok(Pat::Bind(name.copied(self.alloc)?))
-            }
-            TokenKind::Number(z) => {
-                tokens.skip();
-                Ok(Pat::Num(*z))
-            }
-            TokenKind::Symbol(name) => {
-                tokens.skip();
-                Ok(Pat::Sym(name.copied(self.alloc)?))
-            }
-            TokenKind::Keyword(Keyword::KwTrue) => {
-                tokens.skip();
-                Ok(Pat::True)
-            }
-            TokenKind::Keyword(Keyword::KwFalse) => {
-                tokens.skip();
-                Ok(Pat::False)
-            }
-            TokenKind::Keyword(Keyword::KwNil) => {
-                tokens.skip();
-                Ok(Pat::Nil)
-            }
-            TokenKind::Undefined => {
-                tokens.skip();
-                Ok(Pat::Undef)
-            }
+        let found = match kind {
+            TokenKind::Wildcard => Pat::Any,
+            TokenKind::Name(name) => Pat::Bind(name.copied(self.alloc)?),
+            TokenKind::Number(z) => Pat::Num(*z),
+            TokenKind::Symbol(name) => Pat::Sym(name.copied(self.alloc)?),
+            TokenKind::Keyword(Keyword::KwTrue) => Pat::True,
+            TokenKind::Keyword(Keyword::KwFalse) => Pat::False,
+            TokenKind::Keyword(Keyword::KwNil) => Pat::Nil,
+            TokenKind::Undefined => Pat::Undef,
             TokenKind::Dollar => {
                 if n == 0 {
                     return Err(Stop::Refused);
                 }
                 tokens.skip();
-                Ok(Pat::Value(Boxed::new(self.alloc, self.inner_term(tokens, n)?)?))
+                return self.pat_value(tokens, n);
             }
             TokenKind::ParenLeft => {
                 tokens.skip();
-                if tokens.eat(Mark::ParenRight) {
-                    return Ok(Pat::Nil);
-                }
-                if n == 0 {
-                    return Err(Stop::Refused);
-                }
-                let inside = self.pat(tokens, n - 1)?;
-                tokens.expect(Mark::ParenRight)?;
-                Ok(inside)
+                return self.pat_paren(tokens, n);
             }
-            _ => Err(Stop::Refused),
+            _ => return Err(Stop::Refused),
+        };
+        tokens.skip();
+        Ok(found)
+    }
+
+    /// What stands behind a dollar.
+    #[tactic(auto, unfolding(crate::specs::Rules::pat_value))]
+    fn pat_value(&self, tokens: &mut Tokens<'_>, n: u32) -> Result<Pat, Stop>
+        requires level { 0 < n }
+        requires nests { Nests n (F.pre self.now.below) (F.post self.now.below) }
+        ensures { Reads (spec.pat_value n (inner_at n) tokens.old) result tokens.new }
+    {
+        Ok(Pat::Value(Boxed::new(self.alloc, self.inner_term(tokens, n)?)?))
+    }
+
+    /// What stands behind an opening parenthesis.
+    #[cycle(pattern)]
+    #[tactic(auto, unfolding(crate::specs::Rules::pat_paren, crate::specs::Rules::pat_inside), using(crate::proofs::Inside::inside_rules))]
+    fn pat_paren(&self, tokens: &mut Tokens<'_>, n: u32) -> Result<Pat, Stop>
+        requires { Nests n (F.pre self.now.below) (F.post self.now.below) }
+        ensures { Reads (spec.pat_paren n (inner_at n) tokens.old) result tokens.new }
+    {
+        if tokens.eat(Mark::ParenRight) {
+            return Ok(Pat::Nil);
         }
+        if n == 0 {
+            return Err(Stop::Refused);
+        }
+        let inside = self.pat(tokens, n - 1)?;
+        tokens.expect(Mark::ParenRight)?;
+        Ok(inside)
     }
 
     /// A pattern.

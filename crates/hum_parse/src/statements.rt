@@ -113,8 +113,38 @@ impl<F: Fn(Global, &mut Tokens<'_>, u32, Form) -> Result<Expr, Stop>> Grammar<F>
         Ok(Stmt::Send(message, target))
     }
 
+    /// What stands behind `BECOME`.
+    #[tactic(auto, unfolding(crate::specs::Rules::becomes))]
+    fn becomes(&self, tokens: &mut Tokens<'_>, n: u32) -> Result<Stmt, Stop>
+        requires level { 0 < n }
+        requires nests { Nests n (F.pre self.now.below) (F.post self.now.below) }
+        ensures { Reads (spec.becomes n (inner_at n) tokens.old) result tokens.new }
+    {
+        Ok(Stmt::Become(self.inner_expr(tokens, n)?))
+    }
+
+    /// What stands behind `THROW`.
+    #[tactic(auto, unfolding(crate::specs::Rules::throws))]
+    fn throws(&self, tokens: &mut Tokens<'_>, n: u32) -> Result<Stmt, Stop>
+        requires level { 0 < n }
+        requires nests { Nests n (F.pre self.now.below) (F.post self.now.below) }
+        ensures { Reads (spec.throws n (inner_at n) tokens.old) result tokens.new }
+    {
+        Ok(Stmt::Throw(self.inner_expr(tokens, n)?))
+    }
+
+    /// An expression that is executed.
+    #[tactic(auto, unfolding(crate::specs::Rules::does))]
+    fn does(&self, tokens: &mut Tokens<'_>, n: u32) -> Result<Stmt, Stop>
+        requires level { 0 < n }
+        requires nests { Nests n (F.pre self.now.below) (F.post self.now.below) }
+        ensures { Reads (spec.does n (inner_at n) tokens.old) result tokens.new }
+    {
+        Ok(Stmt::Do(self.inner_expr(tokens, n)?))
+    }
+
     /// A statement.
-    #[tactic(auto, unfolding(crate::specs::Rules::stmt, crate::specs::Rules::stmt_by, crate::specs::Rules::does, crate::specs::Rules::becomes, crate::specs::Rules::throws))]
+    #[tactic(auto, unfolding(crate::specs::Rules::stmt, crate::specs::Rules::stmt_by))]
     pub fn stmt(&self, tokens: &mut Tokens<'_>, n: u32) -> Result<Stmt, Stop>
         requires { Nests n (F.pre self.now.below) (F.post self.now.below) }
         ensures { Reads (spec.stmt n (inner_at n) tokens.old) result tokens.new }
@@ -140,13 +170,13 @@ impl<F: Fn(Global, &mut Tokens<'_>, u32, Form) -> Result<Expr, Stop>> Grammar<F>
             }
             TokenKind::Keyword(Keyword::KwBecome) => {
                 tokens.skip();
-                Ok(Stmt::Become(self.inner_expr(tokens, n)?))
+                self.becomes(tokens, n)
             }
             TokenKind::Keyword(Keyword::KwThrow) => {
                 tokens.skip();
-                Ok(Stmt::Throw(self.inner_expr(tokens, n)?))
+                self.throws(tokens, n)
             }
-            _ => Ok(Stmt::Do(self.inner_expr(tokens, n)?)),
+            _ => self.does(tokens, n),
         }
     }
 

@@ -1,6 +1,6 @@
 use Rattle.std.proofs.Common.{rules, arith}
 use Rattle.std.proofs.lemmas.Grind.{common_steps}
-use Rattle.hum_parse.specs.Rules.{inner_at, pat_behind, pats_from, pterm, pterm_by, pat_inside}
+use Rattle.hum_parse.specs.Rules.{inner_at, pat_behind, pats_from, pat_paren, pat_inside}
 use Rattle.hum_parse.proofs.Turns.{one_more}
 use Rattle.hum_parse.proofs.Inside.{inside_pat}
 use Rattle.hum_parse.proofs.grammar.Grammar.+pattern.Goals as goal
@@ -19,8 +19,8 @@ pat_behind-loop-turn-preserved g t c =
     c.loop-turn.invariant in
     first_of (search rules, grind (arith, common_steps))
 
-pub pterm-returns-in_err-expect-in-ParenLeft : goal.pterm-returns-in_err-expect-in-ParenLeft
-unfolding pterm pterm_by pat_inside
-pterm-returns-in_err-expect-in-ParenLeft g t c =
+pub pat_paren-returns-in_err-expect : goal.pat_paren-returns-in_err-expect
+unfolding pat_paren pat_inside
+pat_paren-returns-in_err-expect g t c =
     let inside = inside_pat c.args.n (omega arith) in
     first_of (search rules, grind (arith, common_steps))
