@@ -30,7 +30,8 @@ chain_term {n} {m} {ks} {a} c =
     let calls : IsCalls (suc n) c.f c.vs a = subst (λ vs. IsCalls (suc n) c.f vs a) (append-nil c.vs) (c.goes [] a grammar.calls_done) in
     subst (λ ks. IsTerm n ks a) c.split (grammar.chain c.atom calls)
 
-chain_call : {n m : ℕ} {ks us : Kinds} {f x : Expr} → IsChain n (suc (suc m)) ks f → IsExpr m us x → IsChain n (suc m) (ks ++ k.CallParen ∷ us ++ k.ParenRight ∷ []) (e.Call f x)
+chain_call : {n m : ℕ} {ks us : Kinds} {f x : Expr} → IsChain n (suc (suc m)) ks f → IsExpr m us x
+    → IsChain n (suc m) (ks ++ k.CallParen ∷ us ++ k.ParenRight ∷ []) (e.Call f x)
 chain_call {n} {m} {ks} {us} {f} {x} c h = record {
   us = c.us;
   vs = c.vs ++ (k.CallParen ∷ us ++ k.ParenRight ∷ []);
@@ -42,7 +43,8 @@ chain_call {n} {m} {ks} {us} {f} {x} c h = record {
   atom = c.atom;
   goes = λ ws b more.
       subst (λ vs. IsCalls (suc n) c.f vs b)
-      (sym (append_assoc c.vs (k.CallParen ∷ us ++ k.ParenRight ∷ []) ws ∙ ap (λ z. c.vs ++ k.CallParen ∷ z) (append_assoc us (k.ParenRight ∷ []) ws)))
+      (sym (append_assoc c.vs (k.CallParen ∷ us ++ k.ParenRight ∷ []) ws ∙ ap (λ z. c.vs ++ k.CallParen ∷ z)
+        (append_assoc us (k.ParenRight ∷ []) ws)))
       (c.goes (k.CallParen ∷ us ++ k.ParenRight ∷ ws) b (grammar.calls_call h more));
 }
 
@@ -54,8 +56,8 @@ pub record IsCallee (p : Part) (a : Expr) : Type 0 where
 
 -- what a part of this form spells, where its levels are left
 abbrev pub FitsAs : Form → Part → Expr → Type 0
-FitsAs form.Group p a = (n : ℕ) → p.levels ≤ n → IsExpr n p.tokens a
-FitsAs form.Function p a = (n : ℕ) → p.levels ≤ n → IsItems n p.tokens (a ∷ [])
+FitsAs form.Tuple p a = (n : ℕ) → p.levels ≤ n → IsExpr n p.tokens a
+FitsAs form.Abstraction p a = (n : ℕ) → p.levels ≤ n → IsItems n p.tokens (a ∷ [])
 FitsAs form.Callee p a = IsCallee p a
 FitsAs form.Term p a = (n : ℕ) → p.levels ≤ n → IsTerm n p.tokens a
 
@@ -66,14 +68,14 @@ callee_term : (p : Part) (a : Expr) → IsCallee p a → (n : ℕ) → p.levels 
 callee_term p a h n below = let within = h.within in chain_term (h.chain n (suc n - p.calls) below (omega arith))
 
 narrow_term : (f : Form) (p : Part) (a : Expr) → FitsAs f p a → is_wide f ≡ false → (n : ℕ) → p.levels ≤ n → IsTerm n p.tokens a
-narrow_term form.Group p a h wide = absurd (true≢false wide)
-narrow_term form.Function p a h wide = absurd (true≢false wide)
+narrow_term form.Tuple p a h wide = absurd (true≢false wide)
+narrow_term form.Abstraction p a h wide = absurd (true≢false wide)
 narrow_term form.Callee p a h wide = callee_term p a h
 narrow_term form.Term p a h wide = h
 
 expr_as : (f : Form) (p : Part) (a : Expr) → FitsAs f p a → (n : ℕ) → p.levels ≤ n → IsExpr n p.tokens a
-expr_as form.Group p a h n below = h n below
-expr_as form.Function p a h n below = grammar.expr_only (h n below)
+expr_as form.Tuple p a h n below = h n below
+expr_as form.Abstraction p a h n below = grammar.expr_only (h n below)
 expr_as form.Callee p a h n below = grammar.expr_only (grammar.item_last (callee_term p a h n below))
 expr_as form.Term p a h n below = grammar.expr_only (grammar.item_last (h n below))
 
@@ -87,7 +89,8 @@ parens_callee p a h = record { within = omega arith; chain = go }
     go zero m below e = absurd (omega arith)
     go (suc n) m below e =
         let same : suc (suc n) ≡ m = omega arith in
-        subst (λ m. IsChain (suc n) m (k.ParenLeft ∷ p.tokens ++ k.ParenRight ∷ []) a) same (atom_chain (grammar.paren (fits_expr p a h n (omega arith))))
+        subst (λ m. IsChain (suc n) m (k.ParenLeft ∷ p.tokens ++ k.ParenRight ∷ []) a) same
+          (atom_chain (grammar.paren (fits_expr p a h n (omega arith))))
 
 pub fits_term : (p : Part) (a : Expr) → Fits p a → (n : ℕ) → (as_term p).levels ≤ n → IsTerm n (as_term p).tokens a
 fits_term p a h = go (is_wide p.form) refl
@@ -97,8 +100,8 @@ fits_term p a h = go (is_wide p.form) refl
     go false wide = narrow_term p.form p a h wide
 
 called_callee : (f : Form) (p : Part) (a : Expr) → FitsAs f p a → not (is_called f) ≡ false → IsCallee p a
-called_callee form.Group p a h called = absurd (true≢false called)
-called_callee form.Function p a h called = absurd (true≢false called)
+called_callee form.Tuple p a h called = absurd (true≢false called)
+called_callee form.Abstraction p a h called = absurd (true≢false called)
 called_callee form.Callee p a h called = h
 called_callee form.Term p a h called = absurd (true≢false called)
 
@@ -110,8 +113,8 @@ fits_callee p a h = go (not (is_called p.form)) refl
     go false called = called_callee p.form p a h called
 
 items_as : (f : Form) (p : Part) (a : Expr) → FitsAs f p a → is_tuple f ≡ false → (n : ℕ) → p.levels ≤ n → IsItems n p.tokens (a ∷ [])
-items_as form.Group p a h tuple n below = absurd (true≢false tuple)
-items_as form.Function p a h tuple n below = h n below
+items_as form.Tuple p a h tuple n below = absurd (true≢false tuple)
+items_as form.Abstraction p a h tuple n below = h n below
 items_as form.Callee p a h tuple n below = grammar.item_last (callee_term p a h n below)
 items_as form.Term p a h tuple n below = grammar.item_last (h n below)
 
@@ -132,21 +135,21 @@ call_callee p q f x h h' = record { within = omega arith; chain = go }
 -- ---- patterns
 
 abbrev pub PatFitsAs : Form → Part → Pat → Type 0
-PatFitsAs form.Group p x = (n : ℕ) → p.levels ≤ n → IsPat n p.tokens x
+PatFitsAs form.Tuple p x = (n : ℕ) → p.levels ≤ n → IsPat n p.tokens x
 PatFitsAs _ p x = (n : ℕ) → p.levels ≤ n → IsPterm n p.tokens x
 
 abbrev pub PatFits : Part → Pat → Type 0
 PatFits p x = PatFitsAs p.form p x
 
 narrow_pterm : (f : Form) (p : Part) (x : Pat) → PatFitsAs f p x → is_wide f ≡ false → (n : ℕ) → p.levels ≤ n → IsPterm n p.tokens x
-narrow_pterm form.Group p x h wide = absurd (true≢false wide)
-narrow_pterm form.Function p x h wide = h
+narrow_pterm form.Tuple p x h wide = absurd (true≢false wide)
+narrow_pterm form.Abstraction p x h wide = h
 narrow_pterm form.Callee p x h wide = h
 narrow_pterm form.Term p x h wide = h
 
 pat_as : (f : Form) (p : Part) (x : Pat) → PatFitsAs f p x → (n : ℕ) → p.levels ≤ n → IsPat n p.tokens x
-pat_as form.Group p x h n below = h n below
-pat_as form.Function p x h n below = grammar.pat_only (grammar.pats_last (h n below))
+pat_as form.Tuple p x h n below = h n below
+pat_as form.Abstraction p x h n below = grammar.pat_only (grammar.pats_last (h n below))
 pat_as form.Callee p x h n below = grammar.pat_only (grammar.pats_last (h n below))
 pat_as form.Term p x h n below = grammar.pat_only (grammar.pats_last (h n below))
 

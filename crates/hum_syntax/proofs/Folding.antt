@@ -86,7 +86,8 @@ module _ {E P S A B : Type 0} (g : Steps E P S A B) where
   fold_if xs = ap of_expr (sym (e.rolls-If xs None)) ∙ folds.fold-roll-Expr E P S A B g.expr g.pat g.stmt g.an_arm g.a_branch (layer.If xs None)
 
   pub fold_if_else : (xs : List Branch) (ys : List Stmt) → of_expr (e.If xs (Some ys)) ≡ g.expr (layer.If (map of_branch xs) (Some (map of_stmt ys)))
-  fold_if_else xs ys = ap of_expr (sym (e.rolls-If xs (Some ys))) ∙ folds.fold-roll-Expr E P S A B g.expr g.pat g.stmt g.an_arm g.a_branch (layer.If xs (Some ys))
+  fold_if_else xs ys =
+      ap of_expr (sym (e.rolls-If xs (Some ys))) ∙ folds.fold-roll-Expr E P S A B g.expr g.pat g.stmt g.an_arm g.a_branch (layer.If xs (Some ys))
 
   pub fold_any : of_pat p.Any ≡ g.pat layer.Any
   fold_any = ap of_pat (sym (p.rolls-Any)) ∙ folds.fold-roll-Pat E P S A B g.expr g.pat g.stmt g.an_arm g.a_branch layer.Any

@@ -76,7 +76,8 @@ module _ {E : Expr → Type 0} {P : Pat → Type 0} {S : Stmt → Type 0} {A : A
   abbrev BB : Type 0
   BB = (x : Branch) × B x
 
-  expr_step : (x : Expr-F Expr Pat Stmt Arm Branch) (y : Expr-F EE PP SS AA BB) → folds.map-Expr EE PP SS AA BB Expr Pat Stmt Arm Branch (λ z. z.0) (λ z. z.0) (λ z. z.0) (λ z. z.0) (λ z. z.0) y ≡ x → E (roll-Expr x)
+  expr_step : (x : Expr-F Expr Pat Stmt Arm Branch) (y : Expr-F EE PP SS AA BB)
+      → folds.map-Expr EE PP SS AA BB Expr Pat Stmt Arm Branch (λ z. z.0) (λ z. z.0) (λ z. z.0) (λ z. z.0) (λ z. z.0) y ≡ x → E (roll-Expr x)
   expr_step to layer.Expr::Undef is = subst (λ z. E (roll-Expr z)) is (subst E (sym e.rolls-Undef) c.at_undef)
   expr_step to layer.Expr::Nil is = subst (λ z. E (roll-Expr z)) is (subst E (sym e.rolls-Nil) c.at_nil)
   expr_step to layer.Expr::True is = subst (λ z. E (roll-Expr z)) is (subst E (sym e.rolls-True) c.at_true)
@@ -93,9 +94,11 @@ module _ {E : Expr → Type 0} {P : Pat → Type 0} {S : Stmt → Type 0} {A : A
   expr_step to (layer.New a) is = subst (λ z. E (roll-Expr z)) is (subst E (sym (e.rolls-New a.0)) (c.at_new a.0 a.1))
   expr_step to (layer.Case a xs) is = subst (λ z. E (roll-Expr z)) is (subst E (sym (e.rolls-Case a.0 (nodes xs))) (c.at_case a.0 xs a.1))
   expr_step to (layer.If xs None) is = subst (λ z. E (roll-Expr z)) is (subst E (sym (e.rolls-If (nodes xs) None)) (c.at_if xs))
-  expr_step to (layer.If xs (Some ys)) is = subst (λ z. E (roll-Expr z)) is (subst E (sym (e.rolls-If (nodes xs) (Some (nodes ys)))) (c.at_if_else xs ys))
+  expr_step to (layer.If xs (Some ys)) is =
+      subst (λ z. E (roll-Expr z)) is (subst E (sym (e.rolls-If (nodes xs) (Some (nodes ys)))) (c.at_if_else xs ys))
 
-  pat_step : (x : Pat-F Expr Pat Stmt Arm Branch) (y : Pat-F EE PP SS AA BB) → folds.map-Pat EE PP SS AA BB Expr Pat Stmt Arm Branch (λ z. z.0) (λ z. z.0) (λ z. z.0) (λ z. z.0) (λ z. z.0) y ≡ x → P (roll-Pat x)
+  pat_step : (x : Pat-F Expr Pat Stmt Arm Branch) (y : Pat-F EE PP SS AA BB)
+      → folds.map-Pat EE PP SS AA BB Expr Pat Stmt Arm Branch (λ z. z.0) (λ z. z.0) (λ z. z.0) (λ z. z.0) (λ z. z.0) y ≡ x → P (roll-Pat x)
   pat_step to layer.Any is = subst (λ z. P (roll-Pat z)) is (subst P (sym p.rolls-Any) c.at_any)
   pat_step to (layer.Bind t) is = subst (λ z. P (roll-Pat z)) is (subst P (sym (p.rolls-Bind t)) (c.at_bind t))
   pat_step to layer.Pat::Undef is = subst (λ z. P (roll-Pat z)) is (subst P (sym p.rolls-Undef) c.at_pat_undef)
@@ -107,7 +110,8 @@ module _ {E : Expr → Type 0} {P : Pat → Type 0} {S : Stmt → Type 0} {A : A
   pat_step to (layer.Value a) is = subst (λ z. P (roll-Pat z)) is (subst P (sym (p.rolls-Value a.0)) (c.at_value a.0 a.1))
   pat_step to (layer.Pat::Tuple xs) is = subst (λ z. P (roll-Pat z)) is (subst P (sym (p.rolls-Tuple (nodes xs))) (c.at_pat_tuple xs))
 
-  stmt_step : (x : Stmt-F Expr Pat Stmt Arm Branch) (y : Stmt-F EE PP SS AA BB) → folds.map-Stmt EE PP SS AA BB Expr Pat Stmt Arm Branch (λ z. z.0) (λ z. z.0) (λ z. z.0) (λ z. z.0) (λ z. z.0) y ≡ x → S (roll-Stmt x)
+  stmt_step : (x : Stmt-F Expr Pat Stmt Arm Branch) (y : Stmt-F EE PP SS AA BB)
+      → folds.map-Stmt EE PP SS AA BB Expr Pat Stmt Arm Branch (λ z. z.0) (λ z. z.0) (λ z. z.0) (λ z. z.0) (λ z. z.0) y ≡ x → S (roll-Stmt x)
   stmt_step to (layer.Let x a) is = subst (λ z. S (roll-Stmt z)) is (subst S (sym (s.rolls-Let x.0 a.0)) (c.at_let x.0 a.0 x.1 a.1))
   stmt_step to (layer.Send a b) is = subst (λ z. S (roll-Stmt z)) is (subst S (sym (s.rolls-Send a.0 b.0)) (c.at_send a.0 b.0 a.1 b.1))
   stmt_step to (layer.Create t a) is = subst (λ z. S (roll-Stmt z)) is (subst S (sym (s.rolls-Create t a.0)) (c.at_create t a.0 a.1))
@@ -115,10 +119,12 @@ module _ {E : Expr → Type 0} {P : Pat → Type 0} {S : Stmt → Type 0} {A : A
   stmt_step to (layer.Throw a) is = subst (λ z. S (roll-Stmt z)) is (subst S (sym (s.rolls-Throw a.0)) (c.at_throw a.0 a.1))
   stmt_step to (layer.Do a) is = subst (λ z. S (roll-Stmt z)) is (subst S (sym (s.rolls-Do a.0)) (c.at_do a.0 a.1))
 
-  arm_step : (x : Arm-F Expr Pat Stmt Arm Branch) (y : Arm-F EE PP SS AA BB) → folds.map-Arm EE PP SS AA BB Expr Pat Stmt Arm Branch (λ z. z.0) (λ z. z.0) (λ z. z.0) (λ z. z.0) (λ z. z.0) y ≡ x → A (roll-Arm x)
+  arm_step : (x : Arm-F Expr Pat Stmt Arm Branch) (y : Arm-F EE PP SS AA BB)
+      → folds.map-Arm EE PP SS AA BB Expr Pat Stmt Arm Branch (λ z. z.0) (λ z. z.0) (λ z. z.0) (λ z. z.0) (λ z. z.0) y ≡ x → A (roll-Arm x)
   arm_step x y is = subst (λ z. A (roll-Arm z)) is (c.at_arm y.pattern.0 y.value.0 y.pattern.1 y.value.1)
 
-  branch_step : (x : Branch-F Expr Pat Stmt Arm Branch) (y : Branch-F EE PP SS AA BB) → folds.map-Branch EE PP SS AA BB Expr Pat Stmt Arm Branch (λ z. z.0) (λ z. z.0) (λ z. z.0) (λ z. z.0) (λ z. z.0) y ≡ x → B (roll-Branch x)
+  branch_step : (x : Branch-F Expr Pat Stmt Arm Branch) (y : Branch-F EE PP SS AA BB)
+      → folds.map-Branch EE PP SS AA BB Expr Pat Stmt Arm Branch (λ z. z.0) (λ z. z.0) (λ z. z.0) (λ z. z.0) (λ z. z.0) y ≡ x → B (roll-Branch x)
   branch_step x y is = subst (λ z. B (roll-Branch z)) is (c.at_branch y.condition.0 y.block y.condition.1)
 
   pub every_expr : (x : Expr) → E x

@@ -6,3 +6,8 @@ pub mod Written
 pub mod Chains
 pub mod Induction
 pub mod PrintedTrees
+pub mod Decimals
+pub mod LexedTexts
+pub mod WritableTrees
+pub mod MoreLevels
+pub mod Texts

@@ -44,7 +44,8 @@ mutual
   named_stmts (grammar.stmts_more {us = us} {vs = vs} h h') = beside us vs (named_stmt h) (named_stmts h')
 
   pub named_stmt : {n : ℕ} {us : Kinds} {x : Stmt} → IsStmt n us x → names_of_stmt x ≡ names_of_kinds us
-  named_stmt (grammar.let_is {us = us} {vs = vs} {x = x} {a = a} h h') = folds.fold_let named x a ∙ beside us (k.Equals ∷ vs) (named_pat h) (named_expr h')
+  named_stmt (grammar.let_is {us = us} {vs = vs} {x = x} {a = a} h h') =
+      folds.fold_let named x a ∙ beside us (k.Equals ∷ vs) (named_pat h) (named_expr h')
   named_stmt (grammar.let_unit {f = f} {a = a} h) =
       folds.fold_let named (p.Bind f) (e.Abs p.Nil a)
       ∙ ap (λ z. z ++ names_of_expr (e.Abs p.Nil a)) (folds.fold_bind named f)
@@ -127,7 +128,8 @@ mutual
   named_arms (grammar.arms_more {us = us} {vs = vs} h h') = beside us vs (named_arm h) (named_arms h')
 
   pub named_arm : {n : ℕ} {us : Kinds} {x : Arm} → IsArm n us x → names_of_arm x ≡ names_of_kinds us
-  named_arm (grammar.colon {us = us} {vs = vs} {x = x} {a = a} h h') = folds.fold_arm named x a ∙ beside us (k.Colon ∷ vs) (named_pat h) (named_expr h')
+  named_arm (grammar.colon {us = us} {vs = vs} {x = x} {a = a} h h') =
+      folds.fold_arm named x a ∙ beside us (k.Colon ∷ vs) (named_pat h) (named_expr h')
 
   pub named_pat : {n : ℕ} {us : Kinds} {x : Pat} → IsPat n us x → names_of_pat x ≡ names_of_kinds us
   named_pat (grammar.pat_only {x = x} h) = sym (append-nil (names_of_pat x)) ∙ named_pats h

@@ -19,7 +19,7 @@ use Rattle.hum_syntax.specs.Forms.{is_name}
 use Rattle.hum_syntax.specs.Formed.{all, is_formed_expr, is_formed_pat, is_formed_stmt, is_formed_arm, is_formed_branch, are_formed}
 use Rattle.hum_syntax.specs.Spells as grammar
 use Rattle.hum_syntax.specs.Spells.{Kinds, arm, branch, IsStmts, IsStmt, IsExpr, IsItems, IsTerm, IsBlock, IsBranches, IsArms, IsArm, IsPat, IsPats}
-use Rattle.hum_syntax.specs.Prints.{Part, Printed, expr_part, pat_part, stmt_lines, arm_lines, branch_lines, part_of_expr, part_of_pat, lines_of_stmt, lines_of_arm, lines_of_branch, as_term, as_callee, in_line, levels_in, items_in, tuple, block, branches, printed, levels}
+use Rattle.hum_syntax.specs.Prints.{Part, Piece, expr_part, pat_part, stmt_piece, arm_piece, branch_piece, part_of_expr, part_of_pat, piece_of_stmt, piece_of_arm, piece_of_branch, as_term, as_callee, in_line, levels_in, items_in, tuple, block, branches, printed, levels}
 use Rattle.hum_syntax.proofs.Folding as folds
 use Rattle.hum_syntax.proofs.Folding.{Steps}
 use Rattle.hum_syntax.proofs.FormedTrees.{formed}
@@ -27,8 +27,8 @@ use Rattle.hum_syntax.proofs.Induction.{Each, nodes, Cases, each_stmt, nodes-eac
 use Rattle.hum_syntax.proofs.Chains.{IsChain, Fits, PatFits, fits_expr, fits_term, fits_callee, fits_last, fits_pat, fits_pterm, atom_chain, call_callee}
 use Rattle.hum_syntax.proofs.Written.{items_more}
 
-abbrev pub parts : Steps Part Part Printed Printed Printed
-parts = record { expr = expr_part; pat = pat_part; stmt = stmt_lines; an_arm = arm_lines; a_branch = branch_lines }
+abbrev pub parts : Steps Part Part Piece Piece Piece
+parts = record { expr = expr_part; pat = pat_part; stmt = stmt_piece; an_arm = arm_piece; a_branch = branch_piece }
 
 -- ---- what is so of each node
 
@@ -39,10 +39,10 @@ abbrev PatternFits : Pat → Type 0
 PatternFits x = is_formed_pat x ≡ true → PatFits (part_of_pat x) x
 
 abbrev StmtFits : Stmt → Type 0
-StmtFits x = is_formed_stmt x ≡ true → (n : ℕ) → (lines_of_stmt x).levels ≤ n → IsStmt n (lines_of_stmt x).tokens x
+StmtFits x = is_formed_stmt x ≡ true → (n : ℕ) → (piece_of_stmt x).levels ≤ n → IsStmt n (piece_of_stmt x).tokens x
 
 abbrev ArmFits : Arm → Type 0
-ArmFits x = is_formed_arm x ≡ true → (n : ℕ) → (lines_of_arm x).levels ≤ n → IsArm n (lines_of_arm x).tokens x
+ArmFits x = is_formed_arm x ≡ true → (n : ℕ) → (piece_of_arm x).levels ≤ n → IsArm n (piece_of_arm x).tokens x
 
 -- a condition and its block
 record IsBranch (n : ℕ) (ks : Kinds) (x : Branch) : Type 0 where
@@ -56,7 +56,7 @@ record IsBranch (n : ℕ) (ks : Kinds) (x : Branch) : Type 0 where
   statements : IsBlock n vs ys
 
 abbrev BranchFits : Branch → Type 0
-BranchFits x = is_formed_branch x ≡ true → (n : ℕ) → (lines_of_branch x).levels ≤ n → IsBranch n (lines_of_branch x).tokens x
+BranchFits x = is_formed_branch x ≡ true → (n : ℕ) → (piece_of_branch x).levels ≤ n → IsBranch n (piece_of_branch x).tokens x
 
 -- ---- helpers
 
@@ -69,7 +69,7 @@ deeper l Q f (suc n) below = f n (omega arith)
 one : (l : ℕ) (ks : Kinds) (a : Expr) → ((n : ℕ) → grammar.IsAtom n ks a) → (n : ℕ) → l ≤ n → IsTerm n ks a
 one l ks a atom n below = subst (λ us. IsTerm n us a) (append-nil ks) (grammar.chain (atom n) grammar.calls_done)
 
-all_formed : {X : Type 0} (test : X → Bool) (xs : List X) → all (map test xs) ≡ true → list_all test xs ≡ true
+pub all_formed : {X : Type 0} (test : X → Bool) (xs : List X) → all (map test xs) ≡ true → list_all test xs ≡ true
 all_formed test xs h = sym (list_all-map (λ b. b) test xs) ∙ h
 
 -- ---- lists
@@ -81,7 +81,7 @@ stmts_fit (x ∷ xs) h n below =
     grammar.stmts_more (x.1 both.0 n (omega arith)) (stmts_fit xs both.1 n (omega arith))
 
 block_fits : (xs : Each StmtFits) → all (map is_formed_stmt (nodes xs)) ≡ true → (n : ℕ) → levels (nodes xs) ≤ n
-    → IsBlock n (block (map lines_of_stmt (nodes xs))) (nodes xs)
+    → IsBlock n (block (map piece_of_stmt (nodes xs))) (nodes xs)
 block_fits xs h n below = grammar.square (stmts_fit xs (all_formed is_formed_stmt (nodes xs) h) n below)
 
 items_levels : (q r : Part) (ps : List Part) → (tuple (items_in (q ∷ r ∷ ps))).levels ≡ max (as_term q).levels (tuple (items_in (r ∷ ps))).levels
@@ -89,7 +89,8 @@ items_levels q r [] = refl
 items_levels q r (t ∷ ps) = refl
 
 items_fit : (x : (a : Expr) × ExprFits a) (xs : Each ExprFits) → list_all is_formed_expr (nodes (x ∷ xs)) ≡ true → (n : ℕ)
-    → (tuple (items_in (map part_of_expr (nodes (x ∷ xs))))).levels ≤ n → IsItems n (tuple (items_in (map part_of_expr (nodes (x ∷ xs))))).tokens (nodes (x ∷ xs))
+    → (tuple (items_in (map part_of_expr (nodes (x ∷ xs))))).levels ≤ n
+        → IsItems n (tuple (items_in (map part_of_expr (nodes (x ∷ xs))))).tokens (nodes (x ∷ xs))
 items_fit x [] h n below = fits_last (part_of_expr x.0) x.0 (x.1 (and_parts (is_formed_expr x.0) true h).0) n (omega arith)
 items_fit x (y ∷ ys) h n below =
     let both = and_parts (is_formed_expr x.0) (list_all is_formed_expr (nodes (y ∷ ys))) h in
@@ -98,32 +99,34 @@ items_fit x (y ∷ ys) h n below =
     (grammar.item_comma (fits_term (part_of_expr x.0) x.0 (x.1 both.0) n (omega arith)) (items_fit y ys both.1 n (omega arith)))
 
 pats_fit : (x : (a : Pat) × PatternFits a) (xs : Each PatternFits) → list_all is_formed_pat (nodes (x ∷ xs)) ≡ true → (n : ℕ)
-    → (tuple (map as_term (map part_of_pat (nodes (x ∷ xs))))).levels ≤ n → IsPats n (tuple (map as_term (map part_of_pat (nodes (x ∷ xs))))).tokens (nodes (x ∷ xs))
+    → (tuple (map as_term (map part_of_pat (nodes (x ∷ xs))))).levels ≤ n
+        → IsPats n (tuple (map as_term (map part_of_pat (nodes (x ∷ xs))))).tokens (nodes (x ∷ xs))
 pats_fit x [] h n below = grammar.pats_last (fits_pterm (part_of_pat x.0) x.0 (x.1 (and_parts (is_formed_pat x.0) true h).0) n (omega arith))
 pats_fit x (y ∷ ys) h n below =
     let both = and_parts (is_formed_pat x.0) (list_all is_formed_pat (nodes (y ∷ ys))) h in
     grammar.pats_comma (fits_pterm (part_of_pat x.0) x.0 (x.1 both.0) n (omega arith)) (pats_fit y ys both.1 n (omega arith))
 
 arms_fit : (x : (a : Arm) × ArmFits a) (xs : Each ArmFits) → list_all is_formed_arm (nodes (x ∷ xs)) ≡ true → (n : ℕ)
-    → levels_in (map lines_of_arm (nodes (x ∷ xs))) ≤ n → IsArms n (in_line (map lines_of_arm (nodes (x ∷ xs)))) (nodes (x ∷ xs))
+    → levels_in (map piece_of_arm (nodes (x ∷ xs))) ≤ n → IsArms n (in_line (map piece_of_arm (nodes (x ∷ xs)))) (nodes (x ∷ xs))
 arms_fit x [] h n below =
-    subst (λ ks. IsArms n ks (x.0 ∷ [])) (sym (append-nil (lines_of_arm x.0).tokens)) (grammar.arms_last (x.1 (and_parts (is_formed_arm x.0) true h).0 n (omega arith)))
+    subst (λ ks. IsArms n ks (x.0 ∷ [])) (sym (append-nil (piece_of_arm x.0).tokens))
+      (grammar.arms_last (x.1 (and_parts (is_formed_arm x.0) true h).0 n (omega arith)))
 arms_fit x (y ∷ ys) h n below =
     let both = and_parts (is_formed_arm x.0) (list_all is_formed_arm (nodes (y ∷ ys))) h in
     grammar.arms_more (x.1 both.0 n (omega arith)) (arms_fit y ys both.1 n (omega arith))
 
 branches_fit : (x : (a : Branch) × BranchFits a) (xs : Each BranchFits) → list_all is_formed_branch (nodes (x ∷ xs)) ≡ true → (n : ℕ)
-    → levels_in (map lines_of_branch (nodes (x ∷ xs))) ≤ n → IsBranches n (branches (map lines_of_branch (nodes (x ∷ xs)))) (nodes (x ∷ xs))
+    → levels_in (map piece_of_branch (nodes (x ∷ xs))) ≤ n → IsBranches n (branches (map piece_of_branch (nodes (x ∷ xs)))) (nodes (x ∷ xs))
 branches_fit x [] h n below =
     let is = x.1 (and_parts (is_formed_branch x.0) true h).0 n (omega arith) in
-    subst (λ b. IsBranches n (lines_of_branch x.0).tokens (b ∷ [])) is.made
+    subst (λ b. IsBranches n (piece_of_branch x.0).tokens (b ∷ [])) is.made
     (subst (λ ks. IsBranches n ks (branch is.a is.ys ∷ [])) is.split (grammar.branch_last is.condition is.statements))
 branches_fit x (y ∷ ys) h n below =
     let both = and_parts (is_formed_branch x.0) (list_all is_formed_branch (nodes (y ∷ ys))) h in
     let is = x.1 both.0 n (omega arith) in
-    let rest = branches (map lines_of_branch (nodes (y ∷ ys))) in
+    let rest = branches (map piece_of_branch (nodes (y ∷ ys))) in
     let more = branches_fit y ys both.1 n (omega arith) in
-    subst (λ b. IsBranches n ((lines_of_branch x.0).tokens ++ k.Keyword w.KwElif ∷ rest) (b ∷ nodes (y ∷ ys))) is.made
+    subst (λ b. IsBranches n ((piece_of_branch x.0).tokens ++ k.Keyword w.KwElif ∷ rest) (b ∷ nodes (y ∷ ys))) is.made
     (subst (λ ks. IsBranches n ks (branch is.a is.ys ∷ nodes (y ∷ ys)))
     (sym (append_assoc is.us is.vs (k.Keyword w.KwElif ∷ rest)) ∙ ap (λ z. z ++ k.Keyword w.KwElif ∷ rest) is.split)
     (grammar.branch_elif is.condition is.statements more))
@@ -157,8 +160,8 @@ case_fits a (x ∷ xs) fits h =
     let both = and_parts (some && is_formed_expr a) (all (map is_formed_arm ys)) (sym (folds.fold_case formed a ys) ∙ h) in
     let subject = (and_parts some (is_formed_expr a) both.0).1 in
     subst (λ q. Fits q (e.Case a ys)) (sym (folds.fold_case parts a ys))
-    (deeper (max q.levels (levels_in (map lines_of_arm ys)))
-    (λ n. IsTerm n (k.Keyword w.KwCase ∷ q.tokens ++ k.Keyword w.KwOf ∷ in_line (map lines_of_arm ys) ++ k.Keyword w.KwEnd ∷ []) (e.Case a ys))
+    (deeper (max q.levels (levels_in (map piece_of_arm ys)))
+    (λ n. IsTerm n (k.Keyword w.KwCase ∷ q.tokens ++ k.Keyword w.KwOf ∷ in_line (map piece_of_arm ys) ++ k.Keyword w.KwEnd ∷ []) (e.Case a ys))
     (λ n below. grammar.case (fits_expr q a (fits subject) n (omega arith)) (arms_fit x xs (all_formed is_formed_arm ys both.1) n (omega arith))))
 
 if_fits : (xs : Each BranchFits) → ExprFits (e.If (nodes xs) None)
@@ -167,8 +170,8 @@ if_fits (x ∷ xs) h =
     let bs = nodes (x ∷ xs) in
     let both = and_parts _ _ (sym (folds.fold_if formed bs) ∙ h) in
     subst (λ q. Fits q (e.If bs None)) (sym (folds.fold_if parts bs))
-    (deeper (levels_in (map lines_of_branch bs))
-    (λ n. IsTerm n (k.Keyword w.KwIf ∷ branches (map lines_of_branch bs)) (e.If bs None))
+    (deeper (levels_in (map piece_of_branch bs))
+    (λ n. IsTerm n (k.Keyword w.KwIf ∷ branches (map piece_of_branch bs)) (e.If bs None))
     (λ n below. grammar.if (branches_fit x xs (all_formed is_formed_branch bs both.1) n below)))
 
 if_else_fits : (xs : Each BranchFits) (ys : Each StmtFits) → ExprFits (e.If (nodes xs) (Some (nodes ys)))
@@ -176,12 +179,15 @@ if_else_fits [] ys h = absurd (true≢false (sym (sym (folds.fold_if_else formed
 if_else_fits (x ∷ xs) ys h =
     let bs = nodes (x ∷ xs) in
     let some = nat_le 1 (length (map is_formed_branch bs)) in
-    let both = and_parts (some && all (map is_formed_branch bs)) (all (map is_formed_stmt (nodes ys))) (sym (folds.fold_if_else formed bs (nodes ys)) ∙ h) in
+    let both =
+        and_parts (some && all (map is_formed_branch bs)) (all (map is_formed_stmt (nodes ys))) (sym (folds.fold_if_else formed bs (nodes ys)) ∙ h) in
     let conditions = (and_parts some (all (map is_formed_branch bs)) both.0).1 in
     subst (λ q. Fits q (e.If bs (Some (nodes ys)))) (sym (folds.fold_if_else parts bs (nodes ys)))
-    (deeper (max (levels_in (map lines_of_branch bs)) (levels (nodes ys)))
-    (λ n. IsTerm n (k.Keyword w.KwIf ∷ branches (map lines_of_branch bs) ++ k.Keyword w.KwElse ∷ block (map lines_of_stmt (nodes ys))) (e.If bs (Some (nodes ys))))
-    (λ n below. grammar.if_else (branches_fit x xs (all_formed is_formed_branch bs conditions) n (omega arith)) (block_fits ys both.1 n (omega arith))))
+    (deeper (max (levels_in (map piece_of_branch bs)) (levels (nodes ys)))
+    (λ n. IsTerm n (k.Keyword w.KwIf ∷ branches (map piece_of_branch bs) ++ k.Keyword w.KwElse ∷ block (map piece_of_stmt (nodes ys)))
+      (e.If bs (Some (nodes ys))))
+    (λ n below. grammar.if_else (branches_fit x xs (all_formed is_formed_branch bs conditions) n (omega arith))
+      (block_fits ys both.1 n (omega arith))))
 
 -- ---- the other nodes
 
@@ -198,11 +204,12 @@ abs_fits x a fits fits' h =
 name_fits : (t : List ℕ) → ExprFits (e.Var t)
 name_fits t h =
     subst (λ q. Fits q (e.Var t)) (sym (folds.fold_var parts t))
-    (record { within = omega arith; chain = λ n m below same. subst (λ m. IsChain n m (k.Name t ∷ []) (e.Var t)) (let is : suc n ≡ m = omega arith in is) (atom_chain grammar.name) })
+    (record { within = omega arith; chain = λ n m below same. subst (λ m. IsChain n m (k.Name t ∷ []) (e.Var t))
+      (let is : suc n ≡ m = omega arith in is) (atom_chain grammar.name) })
 
 block_expr_fits : (xs : Each StmtFits) → ExprFits (e.Block (nodes xs))
 block_expr_fits xs h =
-    let ks = block (map lines_of_stmt (nodes xs)) in
+    let ks = block (map piece_of_stmt (nodes xs)) in
     let inside = sym (folds.fold_block formed (nodes xs)) ∙ h in
     subst (λ q. Fits q (e.Block (nodes xs))) (sym (folds.fold_block parts (nodes xs)))
     (record {
@@ -210,7 +217,8 @@ block_expr_fits xs h =
       chain = λ n m below same.
           let is : suc n ≡ m = omega arith in
           subst (λ m. IsChain n m ks (e.Block (nodes xs))) is
-          (deeper (levels (nodes xs)) (λ n. IsChain n (suc n) ks (e.Block (nodes xs))) (λ n below. atom_chain (grammar.block (block_fits xs inside n below))) n below);
+          (deeper (levels (nodes xs)) (λ n. IsChain n (suc n) ks (e.Block (nodes xs)))
+            (λ n below. atom_chain (grammar.block (block_fits xs inside n below))) n below);
     })
 
 call_fits : (f a : Expr) → ExprFits f → ExprFits a → ExprFits (e.Call f a)
@@ -295,7 +303,7 @@ branch_fits a xs fits h =
     subst (λ t. (n : ℕ) → t.levels ≤ n → IsBranch n t.tokens (branch a (nodes xs))) (sym (folds.fold_branch parts a (nodes xs)))
     (λ n below. record {
       us = q.tokens;
-      vs = block (map lines_of_stmt (nodes xs));
+      vs = block (map piece_of_stmt (nodes xs));
       a = a;
       ys = nodes xs;
       split = refl;

@@ -37,13 +37,15 @@ sum-cons f x xs = sum_by-cons (λ n. n) (f x) (map f xs)
 mutual
   pub sized_stmts : {n : ℕ} {us : Kinds} {xs : List Stmt} → IsStmts n us xs → size_of xs ≤ weight_of_kinds us
   sized_stmts grammar.stmts_none = omega arith
-  sized_stmts (grammar.stmts_more {us = us} {vs = vs} {x = x} {xs = xs} h h') = omega (arith, sum-cons size_of_stmt x xs, weight_of_kinds-append us vs, sized_stmt h, sized_stmts h')
+  sized_stmts (grammar.stmts_more {us = us} {vs = vs} {x = x} {xs = xs} h h') =
+      omega (arith, sum-cons size_of_stmt x xs, weight_of_kinds-append us vs, sized_stmt h, sized_stmts h')
 
   pub sized_stmt : {n : ℕ} {us : Kinds} {x : Stmt} → IsStmt n us x → size_of_stmt x ≤ weight_of_kinds us
   sized_stmt (grammar.let_is {us = us} {vs = vs} {x = x} {a = a} h h') =
       omega (arith, folds.fold_let sized x a, weight_of_kinds-append us (k.Equals ∷ vs), sized_pat h, sized_expr h')
   sized_stmt (grammar.let_unit {f = f} {a = a} h) =
-      omega (arith, folds.fold_let sized (p.Bind f) (e.Abs p.Nil a), folds.fold_bind sized f, folds.fold_abs sized p.Nil a, folds.fold_pat_nil sized, sized_expr h)
+      omega (arith, folds.fold_let sized (p.Bind f) (e.Abs p.Nil a), folds.fold_bind sized f, folds.fold_abs sized p.Nil a, folds.fold_pat_nil sized,
+        sized_expr h)
   sized_stmt (grammar.let_fun {f = f} {us = us} {vs = vs} {x = x} {a = a} h h') =
       omega (
         arith,
@@ -67,14 +69,18 @@ mutual
   sized_expr (grammar.expr_tuple {a = a} {b = b} {xs = xs} h) = omega (arith, folds.fold_tuple sized (a ∷ b ∷ xs), commas h)
 
   -- a list of several items has a comma at least
-  commas : {n : ℕ} {us : Kinds} {a b : Expr} {xs : List Expr} → IsItems n us (a ∷ b ∷ xs) → 1 + sum (map size_of_expr (a ∷ b ∷ xs)) ≤ weight_of_kinds us
-  commas (grammar.item_comma {us = us} {vs = vs} {a = a} {xs = xs} h h') = omega (arith, sum-cons size_of_expr a xs, weight_of_kinds-append us (k.Comma ∷ vs), sized_term h, sized_items h')
+  commas : {n : ℕ} {us : Kinds} {a b : Expr} {xs : List Expr} → IsItems n us (a ∷ b ∷ xs)
+      → 1 + sum (map size_of_expr (a ∷ b ∷ xs)) ≤ weight_of_kinds us
+  commas (grammar.item_comma {us = us} {vs = vs} {a = a} {xs = xs} h h') =
+      omega (arith, sum-cons size_of_expr a xs, weight_of_kinds-append us (k.Comma ∷ vs), sized_term h, sized_items h')
 
   pub sized_items : {n : ℕ} {us : Kinds} {xs : List Expr} → IsItems n us xs → sum (map size_of_expr xs) ≤ weight_of_kinds us
   sized_items (grammar.item_abs {us = us} {vs = vs} {x = x} {a = a} h h') =
-      omega (arith, sum-cons size_of_expr (e.Abs x a) [], folds.fold_abs sized x a, weight_of_kinds-append us (k.Dot ∷ vs), sized_pat h, sized_expr h')
+      omega (arith, sum-cons size_of_expr (e.Abs x a) [], folds.fold_abs sized x a, weight_of_kinds-append us (k.Dot ∷ vs), sized_pat h,
+        sized_expr h')
   sized_items (grammar.item_last {a = a} h) = omega (arith, sum-cons size_of_expr a [], sized_term h)
-  sized_items (grammar.item_comma {us = us} {vs = vs} {a = a} {xs = xs} h h') = omega (arith, sum-cons size_of_expr a xs, weight_of_kinds-append us (k.Comma ∷ vs), sized_term h, sized_items h')
+  sized_items (grammar.item_comma {us = us} {vs = vs} {a = a} {xs = xs} h h') =
+      omega (arith, sum-cons size_of_expr a xs, weight_of_kinds-append us (k.Comma ∷ vs), sized_term h, sized_items h')
 
   pub sized_term : {n : ℕ} {us : Kinds} {a : Expr} → IsTerm n us a → size_of_expr a ≤ weight_of_kinds us
   sized_term (grammar.chain {us = us} {vs = vs} h h') = omega (arith, weight_of_kinds-append us vs, sized_atom h, sized_calls h')
@@ -119,7 +125,8 @@ mutual
 
   pub sized_branches : {n : ℕ} {us : Kinds} {xs : List Branch} → IsBranches n us xs → sum (map size_of_branch xs) ≤ weight_of_kinds us
   sized_branches (grammar.branch_last {us = us} {vs = vs} {a = a} {ys = ys} h h') =
-      omega (arith, sum-cons size_of_branch (grammar.branch a ys) [], folds.fold_branch sized a ys, weight_of_kinds-append us vs, sized_expr h, sized_block h')
+      omega (arith, sum-cons size_of_branch (grammar.branch a ys) [], folds.fold_branch sized a ys, weight_of_kinds-append us vs, sized_expr h,
+        sized_block h')
   sized_branches (grammar.branch_elif {us = us} {vs = vs} {ws = ws} {a = a} {ys = ys} {xs = xs} h h' h'') =
       omega (
         arith,
@@ -134,7 +141,8 @@ mutual
 
   pub sized_arms : {n : ℕ} {us : Kinds} {xs : List Arm} → IsArms n us xs → sum (map size_of_arm xs) ≤ weight_of_kinds us
   sized_arms (grammar.arms_last {x = x} h) = omega (arith, sum-cons size_of_arm x [], sized_arm h)
-  sized_arms (grammar.arms_more {us = us} {vs = vs} {x = x} {xs = xs} h h') = omega (arith, sum-cons size_of_arm x xs, weight_of_kinds-append us vs, sized_arm h, sized_arms h')
+  sized_arms (grammar.arms_more {us = us} {vs = vs} {x = x} {xs = xs} h h') =
+      omega (arith, sum-cons size_of_arm x xs, weight_of_kinds-append us vs, sized_arm h, sized_arms h')
 
   pub sized_arm : {n : ℕ} {us : Kinds} {x : Arm} → IsArm n us x → size_of_arm x ≤ weight_of_kinds us
   sized_arm (grammar.colon {us = us} {vs = vs} {x = x} {a = a} h h') =
@@ -144,12 +152,15 @@ mutual
   sized_pat (grammar.pat_only {x = x} h) = omega (arith, sum-cons size_of_pat x [], sized_pats h)
   sized_pat (grammar.pat_tuple {x = x} {y = y} {xs = xs} h) = omega (arith, folds.fold_pat_tuple sized (x ∷ y ∷ xs), pat_commas h)
 
-  pat_commas : {n : ℕ} {us : Kinds} {x y : Pat} {xs : List Pat} → IsPats n us (x ∷ y ∷ xs) → 1 + sum (map size_of_pat (x ∷ y ∷ xs)) ≤ weight_of_kinds us
-  pat_commas (grammar.pats_comma {us = us} {vs = vs} {x = x} {xs = xs} h h') = omega (arith, sum-cons size_of_pat x xs, weight_of_kinds-append us (k.Comma ∷ vs), sized_pterm h, sized_pats h')
+  pat_commas : {n : ℕ} {us : Kinds} {x y : Pat} {xs : List Pat} → IsPats n us (x ∷ y ∷ xs)
+      → 1 + sum (map size_of_pat (x ∷ y ∷ xs)) ≤ weight_of_kinds us
+  pat_commas (grammar.pats_comma {us = us} {vs = vs} {x = x} {xs = xs} h h') =
+      omega (arith, sum-cons size_of_pat x xs, weight_of_kinds-append us (k.Comma ∷ vs), sized_pterm h, sized_pats h')
 
   pub sized_pats : {n : ℕ} {us : Kinds} {xs : List Pat} → IsPats n us xs → sum (map size_of_pat xs) ≤ weight_of_kinds us
   sized_pats (grammar.pats_last {x = x} h) = omega (arith, sum-cons size_of_pat x [], sized_pterm h)
-  sized_pats (grammar.pats_comma {us = us} {vs = vs} {x = x} {xs = xs} h h') = omega (arith, sum-cons size_of_pat x xs, weight_of_kinds-append us (k.Comma ∷ vs), sized_pterm h, sized_pats h')
+  sized_pats (grammar.pats_comma {us = us} {vs = vs} {x = x} {xs = xs} h h') =
+      omega (arith, sum-cons size_of_pat x xs, weight_of_kinds-append us (k.Comma ∷ vs), sized_pterm h, sized_pats h')
 
   pub sized_pterm : {n : ℕ} {us : Kinds} {x : Pat} → IsPterm n us x → size_of_pat x ≤ weight_of_kinds us
   sized_pterm grammar.p_any = omega (arith, folds.fold_any sized)

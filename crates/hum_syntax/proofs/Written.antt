@@ -11,13 +11,14 @@ use Rattle.hum_syntax.specs.declared.tree.Branch.{Branch}
 use Rattle.hum_syntax.specs.Forms.{Bytes}
 use Rattle.hum_syntax.specs.Writes.{with_token, written}
 use Rattle.hum_syntax.specs.Spells.{Kinds}
-use Rattle.hum_syntax.specs.Prints.{part_of_expr, part_of_pat, lines_of_branch, as_term, as_last, items_in, branches, tuple}
+use Rattle.hum_syntax.specs.Prints.{part_of_expr, part_of_pat, piece_of_branch, as_term, as_last, items_in, branches, tuple}
 
 pub written-append : (t : Bytes) (us vs : Kinds) → written t (us ++ vs) ≡ written (written t us) vs
 written-append t us vs = fold-append with_token t us vs
 
 -- a list with marks between its items: the loop that writes one item after another
-module _ {X : Type 0} (mark : TokenKind) (last inner : X → Kinds) (tokens : List X → Kinds) (none : tokens [] ≡ []) (one : (x : X) → tokens (x ∷ []) ≡ last x)
+module _ {X : Type 0} (mark : TokenKind) (last inner : X → Kinds) (tokens : List X → Kinds) (none : tokens [] ≡ [])
+  (one : (x : X) → tokens (x ∷ []) ≡ last x)
     (more : (x y : X) (ys : List X) → tokens (x ∷ y ∷ ys) ≡ inner x ++ mark ∷ tokens (y ∷ ys)) where
   item_first : (xs : List X) (i : ℕ) (x : X) → x ≡ get_or xs i x → i < length xs → drop i xs ≡ x ∷ drop (suc i) xs
   item_first xs i x is within = drop-cons xs i x within ∙ ap (λ y. y ∷ drop (suc i) xs) (sym is)
@@ -78,10 +79,10 @@ pub pat_more : (xs : List Pat) (i : ℕ) (x : Pat) (t : Bytes) → x ≡ get_or 
 pat_more = item_more k.Comma pat_item pat_item pat_tokens refl (λ x. refl) (λ x y ys. refl)
 
 abbrev pub branch_tokens : List Branch → Kinds
-branch_tokens xs = branches (map lines_of_branch xs)
+branch_tokens xs = branches (map piece_of_branch xs)
 
 abbrev pub branch_item : Branch → Kinds
-branch_item x = (lines_of_branch x).tokens
+branch_item x = (piece_of_branch x).tokens
 
 pub branch_last : (xs : List Branch) (i : ℕ) (x : Branch) (t : Bytes) → x ≡ get_or xs i x → i < length xs → length xs ≤ i + 1
     → written t (branch_tokens (drop i xs)) ≡ written (written t (branch_item x)) (branch_tokens (drop (i + 1) xs))

@@ -9,9 +9,9 @@ use crate::tree::{Expr, Pat};
 #[derive(Clone, Copy)]
 pub enum Form {
     /// A tuple.
-    Group,
+    Tuple,
     /// An abstraction.
-    Function,
+    Abstraction,
     /// A name, a call or a block.
     Callee,
     /// Any other.
@@ -23,8 +23,8 @@ impl Form {
         ensures { result ≡ spec.is_tuple self }
     {
         match self {
-            Form::Group => true,
-            Form::Function | Form::Callee | Form::Term => false,
+            Form::Tuple => true,
+            Form::Abstraction | Form::Callee | Form::Term => false,
         }
     }
 
@@ -33,7 +33,7 @@ impl Form {
         ensures { result ≡ spec.is_wide self }
     {
         match self {
-            Form::Group | Form::Function => true,
+            Form::Tuple | Form::Abstraction => true,
             Form::Callee | Form::Term => false,
         }
     }
@@ -43,7 +43,7 @@ impl Form {
     {
         match self {
             Form::Callee => true,
-            Form::Group | Form::Function | Form::Term => false,
+            Form::Tuple | Form::Abstraction | Form::Term => false,
         }
     }
 }
@@ -52,8 +52,8 @@ pub fn form_of_expr(e: &Expr) -> Form
     ensures { result ≡ (part_of_expr e.now).form }
 {
     match e {
-        Expr::Tuple(_) => Form::Group,
-        Expr::Abs(_, _) => Form::Function,
+        Expr::Tuple(_) => Form::Tuple,
+        Expr::Abs(_, _) => Form::Abstraction,
         Expr::Var(_) => Form::Callee,
         Expr::Call(_, _) => Form::Callee,
         Expr::Block(_) => Form::Callee,
@@ -75,7 +75,7 @@ pub fn form_of_pat(p: &Pat) -> Form
     ensures { result ≡ (part_of_pat p.now).form }
 {
     match p {
-        Pat::Tuple(_) => Form::Group,
+        Pat::Tuple(_) => Form::Tuple,
         Pat::Any => Form::Term,
         Pat::Bind(_) => Form::Term,
         Pat::Undef => Form::Term,

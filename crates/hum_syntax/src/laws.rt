@@ -1,6 +1,6 @@
 // What is so of every tree that tokens spell.
 
-ghost use Rattle.hum_syntax.specs.Laws.{SpelledTreesAreFormed, NamesAreSpelled, NamesHaveTokens, TreesAreLight};
+ghost use Rattle.hum_syntax.specs.Laws.{SpelledTreesAreFormed, NamesAreSpelled, NamesHaveTokens, TreesAreLight, MoreLevelsSpell};
 
 /// Where each number among the tokens is in range, and each name, symbol and text has its form, a tree that the tokens spell is formed.
 pub fn spelled_trees_are_formed()
@@ -20,4 +20,9 @@ pub fn names_have_tokens()
 /// A tree is no larger than the tokens weigh that spell it.
 pub fn trees_are_light()
     ensures { TreesAreLight }
+{}
+
+/// What tokens spell at a depth they spell at every smaller depth.
+pub fn more_levels_spell()
+    ensures { MoreLevelsSpell }
 {}

@@ -4,7 +4,8 @@ ghost use Rattle.std.specs.Prelude.{◌≡◌, Bool, map, OnOk, IfOk};
 ghost use Rattle.hum_syntax.specs.declared.token.TokenKind.TheVariants as kinds;
 ghost use Rattle.hum_syntax.specs.Writes.{written, text_of};
 ghost use Rattle.hum_syntax.specs.Prints as spec;
-ghost use Rattle.hum_syntax.specs.Prints.{part_of_expr, part_of_pat, lines_of_stmt, lines_of_arm, lines_of_branch, parens, printed};
+ghost use Rattle.hum_syntax.specs.Prints.{part_of_expr, part_of_pat, piece_of_stmt, piece_of_arm, piece_of_branch, parens, printed};
+ghost use Rattle.hum_syntax.specs.Laws.{IsTextOf};
 
 use crate::form::{form_of_expr, form_of_pat};
 use crate::keyword::Keyword;
@@ -100,7 +101,7 @@ fn tuple(out: &mut Writer, items: &[Expr]) -> Result<(), AllocError>
 
 #[cycle(printer)]
 fn arms(out: &mut Writer, arms: &[Arm]) -> Result<(), AllocError>
-    ensures { OnOk result (out.new ≡ written out.old (spec.in_line (map lines_of_arm arms.now))) }
+    ensures { OnOk result (out.new ≡ written out.old (spec.in_line (map piece_of_arm arms.now))) }
 {
     for arm in arms {
         pat(out, &arm.pattern)?;
@@ -113,7 +114,7 @@ fn arms(out: &mut Writer, arms: &[Arm]) -> Result<(), AllocError>
 // Conditions and their blocks, with `ELIF`.
 #[cycle(printer)]
 fn branches(out: &mut Writer, branches: &[Branch]) -> Result<(), AllocError>
-    ensures { OnOk result (out.new ≡ written out.old (spec.branches (map lines_of_branch branches.now))) }
+    ensures { OnOk result (out.new ≡ written out.old (spec.branches (map piece_of_branch branches.now))) }
 {
     for i in 0..branches.len() {
         branch(out, &branches[i])?;
@@ -126,7 +127,7 @@ fn branches(out: &mut Writer, branches: &[Branch]) -> Result<(), AllocError>
 
 #[cycle(printer)]
 fn branch(out: &mut Writer, branch: &Branch) -> Result<(), AllocError>
-    ensures { OnOk result (out.new ≡ written out.old (lines_of_branch branch.now).tokens) }
+    ensures { OnOk result (out.new ≡ written out.old (piece_of_branch branch.now).tokens) }
 {
     expr(out, &branch.condition)?;
     block(out, branch.block.as_slice())
@@ -134,7 +135,7 @@ fn branch(out: &mut Writer, branch: &Branch) -> Result<(), AllocError>
 
 #[cycle(printer)]
 fn block(out: &mut Writer, statements: &[Stmt]) -> Result<(), AllocError>
-    ensures { OnOk result (out.new ≡ written out.old (spec.block (map lines_of_stmt statements.now))) }
+    ensures { OnOk result (out.new ≡ written out.old (spec.block (map piece_of_stmt statements.now))) }
 {
     out.token(&TokenKind::SquareLeft)?;
     stmts(out, statements)?;
@@ -153,7 +154,7 @@ fn stmts(out: &mut Writer, statements: &[Stmt]) -> Result<(), AllocError>
 
 #[cycle(printer)]
 fn stmt(out: &mut Writer, statement: &Stmt) -> Result<(), AllocError>
-    ensures { OnOk result (out.new ≡ written out.old (lines_of_stmt statement.now).tokens) }
+    ensures { OnOk result (out.new ≡ written out.old (piece_of_stmt statement.now).tokens) }
 {
     match statement {
         Stmt::Let(pattern, value) => {
@@ -237,12 +238,16 @@ fn pat_tuple(out: &mut Writer, items: &[Pat]) -> Result<(), AllocError>
     Ok(())
 }
 
-/// The text of a tree: one blank stands between tokens, and none before the parenthesis of a call.
+/// The text of a tree: one blank stands between tokens, and none before the parenthesis of a call. Only want of memory is an error.
 ///
-/// A function definition is written as `LET f = \p . e`, and the unit value as `NIL`. The tree may be of any depth, and the call takes
-/// as much stack as it is deep: trees from texts are at most 200 deep.
+/// Parentheses stand round a tuple or an abstraction where a term is wanted, round a tuple that is an item of a tuple, and round a callee
+/// that is no name, call or block. A function definition is written as `LET f = \ p . e`, and the unit value as `NIL`.
+///
+/// The text lexes to tokens that spell the tree again, wherever these are light enough and no deeper than a program may be. The tree may
+/// be of any depth, and the call takes stack for each level of it: a tree from a text is at most 200 deep.
 pub fn print(alloc: Global, tree: &Tree) -> Result<Vec<u8>, AllocError>
-    ensures { IfOk result (λ text. text.items ≡ text_of (printed tree.now.statements)) }
+    ensures value { IfOk result (λ text. text.items ≡ text_of (printed tree.now.statements)) }
+    ensures text { IfOk result (λ text. IsTextOf text.items tree.now.statements) }
 {
     let mut out = Writer::new(alloc);
     stmts(&mut out, tree.statements.as_slice())?;

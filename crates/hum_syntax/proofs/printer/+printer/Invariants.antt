@@ -1,16 +1,16 @@
 use Rattle.std.proofs.Common.{◌≡◌, map, drop}
 use Rattle.hum_syntax.specs.Writes.{written}
 use Rattle.hum_syntax.specs.Prints as spec
-use Rattle.hum_syntax.specs.Prints.{part_of_expr, part_of_pat, lines_of_stmt, lines_of_arm, lines_of_branch, printed}
+use Rattle.hum_syntax.specs.Prints.{part_of_expr, part_of_pat, piece_of_stmt, piece_of_arm, piece_of_branch, printed}
 use Rattle.hum_syntax.proofs.printer.+printer.Given as goal
 
 abbrev pub invariant-arms-loop-arm : goal.invariant-arms-loop-arm
 invariant-arms-loop-arm l =
-    written l.out (spec.in_line (map lines_of_arm (drop l.arm-index l.arms))) ≡ written l.fn.out (spec.in_line (map lines_of_arm l.arms))
+    written l.out (spec.in_line (map piece_of_arm (drop l.arm-index l.arms))) ≡ written l.fn.out (spec.in_line (map piece_of_arm l.arms))
 
 abbrev pub invariant-branches-loop-i : goal.invariant-branches-loop-i
 invariant-branches-loop-i l =
-    written l.out (spec.branches (map lines_of_branch (drop l.i l.branches))) ≡ written l.fn.out (spec.branches (map lines_of_branch l.branches))
+    written l.out (spec.branches (map piece_of_branch (drop l.i l.branches))) ≡ written l.fn.out (spec.branches (map piece_of_branch l.branches))
 
 abbrev pub invariant-pat_tuple-loop-i : goal.invariant-pat_tuple-loop-i
 invariant-pat_tuple-loop-i l =
