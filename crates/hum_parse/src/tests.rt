@@ -2,7 +2,7 @@
 
 use crate::{ParseError, parse};
 use hum_lex::lex;
-use hum_syntax::{Expr, Stmt, Tree};
+use hum_syntax::{Expr, Stmt, Tree, print};
 use std::alloc::{AllocError, Global};
 use std::test::Fail;
 
@@ -216,4 +216,63 @@ fn depths(rt: HostRuntime) -> Result<(), Fail> {
     let listed = repeated(alloc, &[(b"f(1", 1), (b", 1", 2999), (b")", 1)])?;
     assert!(rt; has_shape(alloc, &listed, &[b"D!."]));
     Ok(())
+}
+
+fn printed(alloc: Global, text: &[u8]) -> Option<Vec<u8>> {
+    let tree = tree_of(alloc, text).ok()?;
+    print(alloc, &tree).ok()
+}
+
+// What is printed is as wanted, and what is read from it is printed the same.
+fn is_printed(alloc: Global, text: &[u8], wanted: &[u8]) -> bool {
+    let Some(found) = printed(alloc, text) else {
+        return false;
+    };
+    let Some(again) = printed(alloc, &found) else {
+        return false;
+    };
+    found.as_slice() == wanted && again.as_slice() == wanted
+}
+
+const PRINTED: [(&[u8], &[u8]); 12] = [
+    (b"f\n(x)", b"f x"),
+    (b"f(x)", b"f( x )"),
+    (b"(a, b), c", b"( a , b ) , c"),
+    (b"LET f() = ()", b"LET f = \\ NIL . NIL"),
+    (b"LET f, (g, $h(1)) = 1", b"LET f , ( g , $ h( 1 ) ) = 1"),
+    (b"IF a [b] [c]", b"IF a [ b ] [ c ]"),
+    (b"CASE x OF 1 : f (a) : 2 END", b"CASE x OF 1 : f a : 2 END"),
+    (
+        b"LET label(tag, out) = \\m.[ SEND (tag, m) TO out ] CREATE a WITH label(#a, println)
+        CREATE b WITH label(#b, a) SEND 7 TO b",
+        b"LET label = \\ tag , out . \\ m . [ SEND tag , m TO out ] CREATE a WITH label( #a , println ) \
+CREATE b WITH label( #b , a ) SEND 7 TO b",
+    ),
+    (
+        b"LET twice(out) = \\m.[ CASE m OF #bad : [ BECOME quiet BECOME quiet ] _ : [ SEND m TO out ] END ]
+        LET quiet = \\_.[ ] CREATE t WITH twice(println) SEND #bad TO t SEND 5 TO t",
+        b"LET twice = \\ out . \\ m . [ CASE m OF #bad : [ BECOME quiet BECOME quiet ] _ : [ SEND m TO out ] END ] \
+LET quiet = \\ _ . [ ] CREATE t WITH twice( println ) SEND #bad TO t SEND 5 TO t",
+    ),
+    (
+        b"LET t(a, b) = CASE a OF $b : #yes _ : #no END SEND t((1, 2), (1, 2)) TO println SEND t(t, t) TO println",
+        b"LET t = \\ a , b . CASE a OF $ b : #yes _ : #no END SEND t( ( 1 , 2 ) , ( 1 , 2 ) ) TO println \
+SEND t( t , t ) TO println",
+    ),
+    (
+        b"LET answer(n) = \\cust.[ SEND n TO cust ]
+        LET start(x, y, cust) = \\_.[ SEND SELF TO x SEND SELF TO y BECOME \\a.[ BECOME \\b.[ SEND add(a, b) TO cust ] ] ]
+        CREATE x WITH answer(3) CREATE y WITH answer(4) CREATE j WITH start(x, y, println) SEND NIL TO j",
+        b"LET answer = \\ n . \\ cust . [ SEND n TO cust ] LET start = \\ x , y , cust . \\ _ . [ SEND SELF TO x SEND SELF TO y \
+BECOME \\ a . [ BECOME \\ b . [ SEND add( a , b ) TO cust ] ] ] CREATE x WITH answer( 3 ) CREATE y WITH answer( 4 ) \
+CREATE j WITH start( x , y , println ) SEND NIL TO j",
+    ),
+    (b"LET f(x) = f(x) f(0)", b"LET f = \\ x . f( x ) f( 0 )"),
+];
+
+#[test]
+fn prints(rt: HostRuntime) {
+    for row in PRINTED.iter() {
+        assert!(rt; is_printed(rt.alloc(), row.0, row.1));
+    }
 }
