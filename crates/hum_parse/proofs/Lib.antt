@@ -21,3 +21,4 @@ pub mod ExactProgram
 pub mod Answered
 pub mod Inside
 pub mod Fewer
+pub mod Reread

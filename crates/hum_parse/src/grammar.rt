@@ -86,7 +86,7 @@ impl<F: Fn(Global, &mut Tokens<'_>, u32, Form) -> Result<Expr, Stop>> Grammar<F>
     }
 }
 
-/// An expression or a term.
+/// An expression or a term, below which so many levels may still stand.
 pub fn expression(alloc: Global, tokens: &mut Tokens<'_>, n: u32, form: Form) -> Result<Expr, Stop>
     ensures { Reads (spec.expression n form tokens.old) result tokens.new }
 {

@@ -5,6 +5,7 @@ mod expressions;
 mod grammar;
 mod laws;
 mod patterns;
+mod round_trip;
 mod statements;
 mod terms;
 #[cfg(test)]
@@ -13,4 +14,5 @@ mod tokens;
 mod whole;
 
 pub use laws::{tokens_are_refused_at_one_place, tokens_spell_one_tree};
+pub use round_trip::read_back;
 pub use whole::{ParseError, parse};

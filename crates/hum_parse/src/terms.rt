@@ -12,6 +12,7 @@ use hum_syntax::{Branch, Expr, Keyword, Stmt, TokenKind};
 use sqlite_items::{Boxed, Items};
 use std::alloc::{AllocError, Global};
 
+// The call of this callee with this argument.
 fn call(alloc: Global, callee: Boxed<Expr>, argument: Expr) -> Result<Boxed<Expr>, AllocError>
     ensures { IfOk result (λ made. made ≡ Expr.Call callee argument) }
 {

@@ -1,8 +1,9 @@
 //! Worked texts: what trees they spell, and where they are refused.
 
-use crate::{ParseError, parse};
+use crate::{ParseError, parse, read_back};
 use hum_lex::lex;
 use hum_syntax::{Expr, Stmt, Tree, print};
+use sqlite_items::Items;
 use std::alloc::{AllocError, Global};
 use std::test::Fail;
 
@@ -269,6 +270,14 @@ CREATE j WITH start( x , y , println ) SEND NIL TO j",
     ),
     (b"LET f(x) = f(x) f(0)", b"LET f = \\ x . f( x ) f( 0 )"),
 ];
+
+#[test]
+fn an_empty_tree(rt: HostRuntime) {
+    let tree = Tree {
+        statements: Items::new(rt.alloc()),
+    };
+    assert!(rt; read_back(rt.alloc(), &tree).is_ok());
+}
 
 #[test]
 fn prints(rt: HostRuntime) {

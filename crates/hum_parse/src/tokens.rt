@@ -48,6 +48,7 @@ impl From<AllocError> for Stop {
     }
 }
 
+// Whether the token is this one.
 fn is(mark: Mark, kind: &TokenKind) -> bool
     ensures { result ≡ spec.is mark kind.now }
 {
@@ -88,24 +89,28 @@ impl<'a> Model for Tokens<'a> {
 }
 
 impl<'a> Tokens<'a> {
+    /// A cursor at the first of these tokens.
     pub fn new(rest: &'a [Token]) -> Tokens<'a>
         ensures { result ≡ kinds rest.now }
     {
         Tokens { rest }
     }
 
+    /// How many tokens are left.
     pub fn len(&self) -> usize
         ensures { result ≡ length self.now }
     {
         self.rest.len()
     }
 
+    /// Whether no token is left.
     pub fn is_empty(&self) -> bool
         ensures { IsTrue result ↔ (self.now ≡ []) }
     {
         self.rest.is_empty()
     }
 
+    /// The next token's kind.
     pub fn peek(&self) -> Option<&'a TokenKind>
         ensures { MatchOption result (self.now ≡ []) (λ kind. self.now ≡ kind.now ∷ spec.next self.now) }
     {
@@ -115,7 +120,7 @@ impl<'a> Tokens<'a> {
         }
     }
 
-    /// Goes on behind the next token.
+    /// Takes the next token, if there is one.
     pub fn skip(&mut self)
         ensures { self.new ≡ spec.next self.old }
     {
@@ -124,6 +129,7 @@ impl<'a> Tokens<'a> {
         }
     }
 
+    /// Whether this token comes next.
     pub fn sees(&self, mark: Mark) -> bool
         ensures { result ≡ spec.sees mark self.now }
     {
@@ -145,6 +151,7 @@ impl<'a> Tokens<'a> {
         found
     }
 
+    /// Takes this token. Where another comes next, or none, it is refused and nothing is taken.
     pub fn expect(&mut self, mark: Mark) -> Result<(), Stop>
         ensures { Reads (spec.expect mark self.old) result self.new }
     {
@@ -168,7 +175,7 @@ impl<'a> Tokens<'a> {
         Ok(Some(copy))
     }
 
-    /// Takes a name.
+    /// Takes a name. Where another token comes next, or none, it is refused and nothing is taken.
     pub fn expect_name(&mut self, alloc: Global) -> Result<Name, Stop>
         ensures { Reads (spec.expect_name self.old) result self.new }
     {

@@ -48,6 +48,9 @@ fn program(alloc: Global, tokens: &mut Tokens<'_>, n: u32) -> Result<Items<Stmt>
 }
 
 /// The tree that the tokens spell, no deeper than 200.
+///
+/// Tokens that spell no such tree are refused. The place is the number of tokens in the longest front that begins some tokens that do.
+/// A call may answer `NoMemory` whatever the tokens are.
 #[tactic(auto, using(crate::proofs::Answered::whole_rules))]
 pub fn parse(alloc: Global, tokens: &[Token]) -> Result<Tree, ParseError>
     requires { length tokens.now < 2 ^ 32 }
