@@ -134,9 +134,6 @@ apart p rest e = cc
 pub no_tree : (ts rest : Kinds) → program deepest ts ≡ Err rest → (tree : Tree) → Spells ts tree → ⊥
 no_tree ts rest e tree h = let r = only_whole ts tree.statements h in apart (tree.statements, r.0) rest (sym r.1 ∙ e)
 
-pub same_place : (m n : ℕ) → m ≡ n → (P : ℕ → Type 0) → P m → P n
-same_place m n e P x = subst P e x
-
 pub kinds_length : (ts : List Token) → length (kinds ts) ≡ length ts
 kinds_length [] = refl
 kinds_length (t ∷ ts) = ap suc (kinds_length ts)

@@ -76,7 +76,7 @@ pub record Ends {A : Type 0} (T : Language A) : Type 0 where
   pub tree : A
   pub ends : T tail tree
 
-front_empty : (xs ys : Kinds) → [] ≡ xs ++ ys → xs ≡ []
+pub front_empty : (xs ys : Kinds) → [] ≡ xs ++ ys → xs ≡ []
 front_empty [] ys e = refl
 front_empty (x ∷ xs) ys e = cc
 

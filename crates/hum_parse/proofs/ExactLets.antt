@@ -15,7 +15,7 @@ use Rattle.hum_parse.specs.declared.tokens.Mark.TheVariants as mark
 use Rattle.hum_parse.specs.Input.{pure, expect, and_then, is}
 use Rattle.hum_parse.specs.Rules.{Inner, equals, function, function_value, function_inside, let_value, let_named, let_pattern, let_rule}
 use Rattle.hum_parse.proofs.Exact.{Language, Avoids, Answers, Exact, Then, exact_then}
-use Rattle.hum_parse.proofs.Steps.{is_stands, exact_branch, Pure, Word, Begins, along, took, narrowed, begins_more, word_follows, exact_word, exact_made, word_is, worded, pured, pure_split}
+use Rattle.hum_parse.proofs.Steps.{apart, exact_branch, Pure, Word, Begins, along, took, narrowed, begins_more, word_follows, exact_word, exact_made, word_is, worded, pured, pure_split}
 use Rattle.hum_parse.proofs.Levels.{PatBehind, PatsRest, goes_on, Below}
 use Rattle.hum_parse.proofs.ExactPatterns.{begins_pterm, pterm_begins, pat_begins, pat_same, only_name}
 use Rattle.hum_parse.proofs.Names.{is_name}
@@ -70,11 +70,7 @@ argument_begins : (n : ℕ) (f : List ℕ) (u : Kinds) (b : Stmt) → ArgumentTa
 argument_begins n f u b y = subst (Begins begins_pterm) (sym y.split) (begins_more begins_pterm y.left y.right (pat_begins y.is_left))
 
 no_argument : (n : ℕ) (f : List ℕ) (u : Kinds) (b : Stmt) → ArgumentTail n f u b → Begins (is mark.ParenRight) u → ⊥
-no_argument n f u b y c = one u (argument_begins n f u b y) c
-  where
-    one : (u : Kinds) → Begins begins_pterm u → Begins (is mark.ParenRight) u → ⊥
-    one [] h c = h
-    one (t ∷ u) h c = let at : t ≡ k.ParenRight = is_stands mark.ParenRight t c in let no : false ≡ true = sym (ap begins_pterm at) ∙ h in cc
+no_argument n f u b y c = apart begins_pterm mark.ParenRight refl u (argument_begins n f u b y) c
 
 exact_function : (n : ℕ) (inner : Inner) → Below n inner → (f : List ℕ) (m : ℕ) → Exact (suc (suc m)) (FunctionTail n f) goes_on
     (function (suc n) inner f)
@@ -119,11 +115,7 @@ value_begins n f u b y =
     one us xs vs (inr z) = subst (λ q. Begins is_value (q ++ k.Equals ∷ vs)) (sym (z.split ∙ ap (λ q. q ++ z.right) z.is_left)) refl
 
 no_value : (n : ℕ) (f : List ℕ) (u : Kinds) (b : Stmt) → ValueTail n f u b → Begins (is mark.CallParen) u → ⊥
-no_value n f u b y c = one u (value_begins n f u b y) c
-  where
-    one : (u : Kinds) → Begins is_value u → Begins (is mark.CallParen) u → ⊥
-    one [] h c = h
-    one (t ∷ u) h c = let at : t ≡ k.CallParen = is_stands mark.CallParen t c in let no : false ≡ true = sym (ap is_value at) ∙ h in cc
+no_value n f u b y c = apart is_value mark.CallParen refl u (value_begins n f u b y) c
 
 exact_named : (n : ℕ) (inner : Inner) → Below n inner → (f : List ℕ) (m : ℕ)
     → Exact (suc (suc (suc m))) (NamedTail n f) goes_on (let_named (suc n) inner f)

@@ -5,15 +5,14 @@ use Rattle.hum_syntax.specs.declared.TokenKind.TheVariants as k
 use Rattle.hum_syntax.specs.declared.Keyword.TheVariants as w
 use Rattle.hum_syntax.specs.declared.Pat.{Pat}
 use Rattle.hum_syntax.specs.declared.Pat.TheVariants as p
-use Rattle.hum_syntax.specs.declared.Expr.{Expr}
 use Rattle.hum_syntax.specs.Spells as G
 use Rattle.hum_syntax.specs.Spells.{Kinds, IsPterm, IsPats, IsPat, IsTerm, IsExpr}
 use Rattle.hum_parse.specs.declared.tokens.Mark.TheVariants as mark
-use Rattle.hum_parse.specs.Input.{pure, expect, either, and_then, is}
+use Rattle.hum_parse.specs.Input.{pure, expect, either, and_then}
 use Rattle.hum_parse.specs.Rules.{Inner, pterm, pterm_by, pat_paren, pat_inside, pat_value, pats_from, pat, pat_behind, pat_of}
 use Rattle.hum_parse.proofs.Levels.{goes_term, goes_on, avoids_less, Behind, PatBehind, PatsRest, not_last, Below, Levels}
 use Rattle.hum_parse.proofs.Exact.{Language, Avoids, Answers, Exact, Ends, Then, exact_then}
-use Rattle.hum_parse.proofs.Steps.{Same, Pure, Word, Or, Begins, along, took, at_end, no_way, exact_pure, exact_or, is_stands, begins_more, word_follows, Close, closes, exact_close, exact_else, exact_shut, pured, pure_split, exact_made}
+use Rattle.hum_parse.proofs.Steps.{apart, unpured, Same, Pure, Word, Or, Begins, along, took, at_end, no_way, exact_pure, exact_or, begins_more, word_follows, Close, closes, exact_close, exact_else, exact_shut, pured, pure_split, exact_made}
 
 -- ---- a pattern between commas
 
@@ -90,34 +89,14 @@ abbrev ValueTail : ℕ → Language Pat
 ValueTail n = Then (IsTerm n) (λ a. Pure (p.Value a))
 
 value_same : (n : ℕ) → Same (ValueTail n) (λ us. IsPterm (suc n) (k.Dollar ∷ us))
-value_same n = record { to = to; from = from }
+value_same n = record { to = unpured (IsTerm n) (λ a. p.Value a) (λ us. IsPterm (suc n) (k.Dollar ∷ us)) (λ u a x. G.p_value x); from = from }
   where
-    to : (u : Kinds) (b : Pat) → ValueTail n u b → IsPterm (suc n) (k.Dollar ∷ u) b
-    to u b y =
-        let all : u ≡ y.left = y.split ∙ ap (λ z. y.left ++ z) y.is_right.none ∙ append-nil y.left in
-        subst (λ z. IsPterm (suc n) (k.Dollar ∷ u) z) y.is_right.same
-        (subst (λ z. IsPterm (suc n) (k.Dollar ∷ z) (p.Value y.first)) (sym all) (G.p_value y.is_left))
-
     from : (u : Kinds) (b : Pat) → IsPterm (suc n) (k.Dollar ∷ u) b → ValueTail n u b
-    from u b (G.p_value a) = record {
-      left = u;
-      right = [];
-      split = sym (append-nil u);
-      first = _;
-      is_left = a;
-      is_right =
-          record { none = refl; same = refl };
-    }
-
-value_follows : {A : Type 0} (f : Expr → A) (a : Expr) (y v : Kinds) (b : A) → Pure (f a) y b → Avoids goes_term v → Avoids goes_term (y ++ v)
-value_follows f a y v b x g = subst (λ z. Avoids goes_term (z ++ v)) (sym x.none) g
+    from u b (G.p_value {a = a} x) = pured (IsTerm n) (λ c. p.Value c) u a x
 
 exact_value : (n : ℕ) (inner : Inner) → Below n inner → (m : ℕ) → Exact (suc m) (ValueTail n) goes_term (pat_value (suc n) inner)
 unfolding pat_value
-exact_value n inner below m =
-    exact_then (IsTerm n) goes_term (λ a. Pure (p.Value a)) goes_term (value_follows p.Value) m inner.term
-    (λ a. pure (p.Value a)) (below.term (suc m))
-    (λ a ts h. exact_pure (p.Value a) goes_term ts)
+exact_value n inner below m = exact_made (IsTerm n) goes_term (λ a. p.Value a) m inner.term (below.term (suc m))
 
 -- ---- `( pat )`
 
@@ -157,10 +136,6 @@ paren_from n u b (G.p_paren x) =
 paren_some : (n : ℕ) (u : Kinds) (b : Pat) → ParenTail n u b → Begins begins_pterm u
 paren_some n u b y = subst (Begins begins_pterm) (sym y.split) (begins_more begins_pterm y.left y.right (pat_begins y.is_left))
 
-apart_right : (u : Kinds) → Begins begins_pterm u → Begins (is mark.ParenRight) u → ⊥
-apart_right [] b c = b
-apart_right (t ∷ u) b c = let at : t ≡ k.ParenRight = is_stands mark.ParenRight t c in let no : false ≡ true = sym (ap begins_pterm at) ∙ b in cc
-
 shut_same : Same (Close mark.ParenRight p.Nil) (λ us. IsPterm 0 (k.ParenLeft ∷ us))
 shut_same = record { to = to; from = from }
   where
@@ -199,7 +174,7 @@ pterm_at (suc n) inner below k.ParenLeft ts =
     rw not_last (took (IsPterm (suc n)) goes_term k.ParenLeft ts (either mark.ParenRight (pure p.Nil) (pat_inside (suc n) inner) ts)
     (λ b y off. pterm_begins y)
     (exact_else mark.ParenRight p.Nil (ParenTail n) (λ us. IsPterm (suc n) (k.ParenLeft ∷ us)) goes_term (paren_to n) G.p_empty (paren_from n)
-    (λ b y. paren_some n [] b y) (λ u b y c. apart_right u (paren_some n u b y) c) (length ts) (pat_inside (suc n) inner)
+    (λ b y. paren_some n [] b y) (λ u b y c. apart begins_pterm mark.ParenRight refl u (paren_some n u b y) c) (length ts) (pat_inside (suc n) inner)
     (exact_paren n inner below goes_term (length ts)) ts (omega arith)))
 pterm_at n inner below t ts = not_here n goes_term ts t refl
 

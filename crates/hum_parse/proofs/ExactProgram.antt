@@ -7,7 +7,7 @@ use Rattle.hum_syntax.specs.Spells as G
 use Rattle.hum_syntax.specs.Spells.{Kinds, arm, IsExpr, IsPat, IsArms, IsArm, IsStmts, IsStmt}
 use Rattle.hum_parse.specs.Input.{Outcome, pure}
 use Rattle.hum_parse.specs.Rules.{Inner, stmt, inner_at, calls, program, program_from}
-use Rattle.hum_parse.proofs.Exact.{SameHead, Found, same_behind, exact_some, Language, Avoids, Answers, Exact, Then}
+use Rattle.hum_parse.proofs.Exact.{front_empty, SameHead, Found, same_behind, exact_some, Language, Avoids, Answers, Exact, Then}
 use Rattle.hum_parse.proofs.Steps.{Pure, Begins, along, begins_more, exact_pure}
 use Rattle.hum_parse.proofs.Levels.{Behind, goes_term, goes_on, ArmsAt, Levels}
 use Rattle.hum_parse.proofs.ExactPatterns.{exact_pat, exact_pat_behind}
@@ -139,13 +139,9 @@ at_last n found = record {
   unique = λ more u v b same e y f. last more u v b same e y;
 }
   where
-    nil : (u v : Kinds) → [] ≡ u ++ v → u ≡ []
-    nil [] v e = refl
-    nil (t ∷ u) v e = cc
-
     last : (more u v : Kinds) (b : List Stmt) → SameHead [] more → more ≡ u ++ v → Behind found (IsStmts n) u b → (u ≡ []) × (found ≡ b)
     last (t ∷ more) u v b same e y = absurd same
-    last [] u v b same e y = let empty : u ≡ [] = nil u v e in
+    last [] u v b same e y = let empty : u ≡ [] = front_empty u v e in
         (empty, sym (append-nil found) ∙ ap (λ z. found ++ z) (sym (none_empty n u y.more y.spelled empty)) ∙ y.is)
 
 exact_program_from : (n : ℕ) (turns : ℕ) (found : List Stmt) → Exact (suc turns) (Behind found (IsStmts (suc n))) all_on

@@ -1,5 +1,5 @@
 -- Terms.
-use Rattle.std.proofs.Common.{◌≡◌, ℕ, ℤ, zero, suc, nat_lt, Bool, true, false, List, [], ◌∷◌, ◌++◌, length, Err, refl, sym, ap, ◌∙◌, subst, arith, ◌⊎◌, inl, inr, append_assoc}
+use Rattle.std.proofs.Common.{◌≡◌, ℕ, ℤ, zero, suc, nat_lt, true, false, List, [], ◌∷◌, ◌++◌, length, Err, refl, sym, ap, ◌∙◌, subst, arith, ◌⊎◌, inl, inr, append_assoc}
 use Rattle.std.proofs.lemmas.Bool.Decides.{nat_tests}
 use Rattle.hum_syntax.specs.declared.TokenKind.{TokenKind}
 use Rattle.hum_syntax.specs.declared.TokenKind.TheVariants as k
@@ -22,9 +22,6 @@ use Rattle.hum_parse.proofs.ExactIfs.{exact_if}
 
 term_ends : (n : ℕ) → Ends (IsTerm n)
 term_ends n = record { tail = k.Undefined ∷ []; carried = refl; tree = e.Undef; ends = G.chain G.undef G.calls_done }
-
-begins_term : TokenKind → Bool
-begins_term t = begins_expr t
 
 module _ (n : ℕ) (ts : Kinds) where
   by_token : (t : TokenKind) (o : Outcome Expr) → Answers (TermBy n t) goes_term ts o → Answers (IsTerm n) goes_term (t ∷ ts) o

@@ -1,5 +1,5 @@
 -- The tokens that an expression may begin with.
-use Rattle.std.proofs.Common.{◌≡◌, ℕ, Bool, true, false, List, [], ◌∷◌, refl, sym, ap, ◌∙◌}
+use Rattle.std.proofs.Common.{ℕ, Bool, true, false, List, refl}
 use Rattle.hum_syntax.specs.declared.TokenKind.{TokenKind}
 use Rattle.hum_syntax.specs.declared.TokenKind.TheVariants as k
 use Rattle.hum_syntax.specs.declared.Keyword.TheVariants as w
@@ -9,7 +9,7 @@ use Rattle.hum_syntax.specs.Spells as G
 use Rattle.hum_syntax.specs.Spells.{Kinds, IsExpr, IsItems, IsTerm, IsAtom, IsBlock}
 use Rattle.hum_parse.specs.declared.tokens.Mark.TheVariants as mark
 use Rattle.hum_parse.specs.Input.{is}
-use Rattle.hum_parse.proofs.Steps.{Begins, begins_more, is_stands}
+use Rattle.hum_parse.proofs.Steps.{Begins, apart, begins_more}
 
 abbrev pub begins_expr : TokenKind → Bool
 begins_expr (k.Number z) = true
@@ -63,5 +63,4 @@ expr_begins (G.expr_only xs) = items_begins xs
 expr_begins (G.expr_tuple xs) = items_begins xs
 
 pub apart_right : (u : Kinds) → Begins begins_expr u → Begins (is mark.ParenRight) u → ⊥
-apart_right [] b c = b
-apart_right (t ∷ u) b c = let at : t ≡ k.ParenRight = is_stands mark.ParenRight t c in let no : false ≡ true = sym (ap begins_expr at) ∙ b in cc
+apart_right u b c = apart begins_expr mark.ParenRight refl u b c

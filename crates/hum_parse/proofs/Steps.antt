@@ -9,7 +9,7 @@ use Rattle.hum_syntax.specs.Spells.{Kinds}
 use Rattle.hum_parse.specs.declared.tokens.Mark.{Mark}
 use Rattle.hum_parse.specs.declared.tokens.Mark.TheVariants as mark
 use Rattle.hum_parse.specs.Input.{Outcome, Parser, pure, expect, either, is, stands, sees, next, and_then}
-use Rattle.hum_parse.proofs.Exact.{Carried, Language, SameHead, Avoids, Found, Stopped, Answers, Exact, Ends, Then, same_behind, exact_then}
+use Rattle.hum_parse.proofs.Exact.{Carried, front_empty, Language, SameHead, Avoids, Found, Stopped, Answers, Exact, Ends, Then, same_behind, exact_then}
 
 pub is_stands : (x : Mark) (t : TokenKind) → is x t ≡ true → t ≡ stands x
 is_stands mark.To (k.Keyword w.KwTo) e = refl
@@ -41,10 +41,6 @@ pub record Pure {A : Type 0} (a : A) (ts : Kinds) (b : A) : Type 0 where
 -- this token
 abbrev pub Word : Mark → Language (Unit {0})
 Word x ts _ = ts ≡ stands x ∷ []
-
-empty_left : (u v : Kinds) → [] ≡ u ++ v → u ≡ []
-empty_left [] v e = refl
-empty_left (x ∷ u) v e = cc
 
 -- ---- languages that say the same
 
@@ -118,7 +114,7 @@ at_end T g x none = record {
 }
   where
     nothing : (more u v : Kinds) (b : _) → SameHead [] more → more ≡ u ++ v → T u b → ⊥
-    nothing [] u v b same e t = none b (subst (λ z. T z b) (empty_left u v e) t)
+    nothing [] u v b same e t = none b (subst (λ z. T z b) (front_empty u v e) t)
     nothing (k ∷ ks) u v b same e t = same
 
 -- No spelling begins with this token, and none is empty.
@@ -182,6 +178,14 @@ exact_expect x g (t ∷ ts) = expect_at x g t ts (is x t) refl
 abbrev pub Begins : (TokenKind → Bool) → Kinds → Type 0
 Begins h [] = ⊥
 Begins h (k ∷ ks) = h k ≡ true
+
+-- no token is of a class and is one that is not of it
+pub apart : (h : TokenKind → Bool) (x : Mark) → h (stands x) ≡ false → (u : Kinds) → Begins h u → Begins (is x) u → ⊥
+apart h x off [] b c = b
+apart h x off (t ∷ u) b c =
+    let at : t ≡ stands x = is_stands x t c in
+    let no : false ≡ true = sym off ∙ sym (ap h at) ∙ b in
+    cc
 
 clash : (h : TokenKind → Bool) (ts more u v : Kinds) → Avoids h ts → SameHead ts more → more ≡ u ++ v → Begins h u → ⊥
 clash h ts more [] v a s e b = b

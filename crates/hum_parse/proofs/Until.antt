@@ -1,12 +1,12 @@
 -- Lists that end with a token.
-use Rattle.std.proofs.Common.{◌≡◌, ℕ, zero, suc, Bool, true, false, List, [], ◌∷◌, ◌++◌, refl, sym, ap, ◌∙◌, subst, arith, ◌⊎◌, inl, inr}
+use Rattle.std.proofs.Common.{◌≡◌, ℕ, zero, suc, Bool, true, false, List, [], ◌∷◌, ◌++◌, refl, sym, subst, arith, ◌⊎◌, inl, inr}
 use Rattle.hum_syntax.specs.declared.TokenKind.{TokenKind}
 use Rattle.hum_syntax.specs.Spells.{Kinds}
 use Rattle.hum_parse.specs.declared.tokens.Mark.{Mark}
-use Rattle.hum_parse.specs.Input.{Parser, and_then, is, stands}
+use Rattle.hum_parse.specs.Input.{Parser, and_then, stands}
 use Rattle.hum_parse.specs.Rules.{until_from}
 use Rattle.hum_parse.proofs.Exact.{Language, Avoids, Exact, Then, exact_some}
-use Rattle.hum_parse.proofs.Steps.{carried_alone, Close, Begins, at_end, begins_more, is_stands, exact_else}
+use Rattle.hum_parse.proofs.Steps.{apart, carried_alone, Close, Begins, at_end, begins_more, exact_else}
 
 pub data Until {A : Type 0} (x : Mark) (L : Language A) : List A → Kinds → List A → Type 0 where
   until_end : {found : List A} → Until x L found (stands x ∷ []) found
@@ -30,10 +30,6 @@ module _ {A : Type 0} (x : Mark) (L : Language A) (h r : TokenKind → Bool)
   next_begins : (found : List A) (u : Kinds) (b : List A) → Next found u b → Begins h u
   next_begins found u b y = subst (Begins h) (sym y.split) (begins_more h y.left y.right (begins y.left y.first y.is_left))
 
-  apart : (u : Kinds) → Begins h u → Begins (is x) u → ⊥
-  apart [] b c = b
-  apart (t ∷ u) b c = let at : t ≡ stands x = is_stands x t c in let no : false ≡ true = sym last_off ∙ sym (ap h at) ∙ b in cc
-
   avoids : (u v : Kinds) → Begins h u → Avoids r (u ++ v)
   avoids [] v b = absurd b
   avoids (t ∷ u) v b = goes t b
@@ -55,7 +51,7 @@ module _ {A : Type 0} (x : Mark) (L : Language A) (h r : TokenKind → Bool)
   exact_until g p xs zero found (t ∷ ts) k = absurd (omega arith)
   exact_until g p xs (suc turns) found ts k =
       exact_else x found (Next found) (Until x L found) g (next_to found) until_end (next_from found) (λ b y. next_begins found [] b y)
-      (λ u b y c. apart u (next_begins found u b y) c) (suc turns)
+      (λ u b y c. apart h x last_off u (next_begins found u b y) c) (suc turns)
       (λ us. and_then (p us) (λ a. until_from x p turns (found ++ a ∷ [])))
       (exact_some L r (λ a. Until x L (found ++ a ∷ [])) g (λ a y v b t f. until_avoids (found ++ a ∷ []) y v b t) (λ a l. begins [] a l) turns p
       (λ a. until_from x p turns (found ++ a ∷ []))
