@@ -44,7 +44,7 @@ chain_call {n} {m} {ks} {us} {f} {x} c h = record {
   goes = λ ws b more.
       subst (λ vs. IsCalls (suc n) c.f vs b)
       (sym (append_assoc c.vs (k.CallParen ∷ us ++ k.ParenRight ∷ []) ws ∙ ap (λ z. c.vs ++ k.CallParen ∷ z)
-        (append_assoc us (k.ParenRight ∷ []) ws)))
+      (append_assoc us (k.ParenRight ∷ []) ws)))
       (c.goes (k.CallParen ∷ us ++ k.ParenRight ∷ ws) b (grammar.calls_call h more));
 }
 
@@ -90,7 +90,7 @@ parens_callee p a h = record { within = omega arith; chain = go }
     go (suc n) m below e =
         let same : suc (suc n) ≡ m = omega arith in
         subst (λ m. IsChain (suc n) m (k.ParenLeft ∷ p.tokens ++ k.ParenRight ∷ []) a) same
-          (atom_chain (grammar.paren (fits_expr p a h n (omega arith))))
+        (atom_chain (grammar.paren (fits_expr p a h n (omega arith))))
 
 pub fits_term : (p : Part) (a : Expr) → Fits p a → (n : ℕ) → (as_term p).levels ≤ n → IsTerm n (as_term p).tokens a
 fits_term p a h = go (is_wide p.form) refl

@@ -51,7 +51,7 @@ several n = grind (arith, nat_tests)
 is_no_timer : (t : List ℕ) → is_name t ≡ true → is_timer t ≡ false
 is_no_timer t named = elim (cases_Bool (is_timer t)) [
   | inl same ↦ (let no : is_name (codes "AFTER") ≡ true = subst (λ u. is_name u ≡ true) ((bytes_eq-Decides t (codes "AFTER")).0 same) named in absurd
-    (true≢false (sym no)))
+      (true≢false (sym no)))
   | inr other ↦ other
 ]
 
@@ -83,7 +83,7 @@ mutual
       let parts = and_parts (is_name f) (list_all is_carried (us ++ rest)) c in
       folds.fold_let formed (p.Bind f) (e.Abs x a)
       ∙ both (folds.fold_bind formed f ∙ parts.0)
-        (folds.fold_abs formed x a ∙ both (formed_pat h (front us rest parts.1)) (formed_expr h' (back us rest parts.1)))
+      (folds.fold_abs formed x a ∙ both (formed_pat h (front us rest parts.1)) (formed_expr h' (back us rest parts.1)))
   formed_stmt (grammar.send {us = us} {vs = vs} {a = a} {b = b} h h') c =
       let rest = k.Keyword w.KwTo ∷ vs in
       folds.fold_send formed a b ∙ both (formed_expr h (front us rest c)) (formed_expr h' (back us rest c))
@@ -116,7 +116,7 @@ mutual
       let subject = front (us ++ rest) (k.Keyword w.KwEnd ∷ []) c in
       folds.fold_case formed a xs
       ∙ both (both (some_arms h') (formed_expr h (front us rest subject)))
-        (list_all-map (λ b. b) is_formed_arm xs ∙ formed_arms h' (back us rest subject))
+      (list_all-map (λ b. b) is_formed_arm xs ∙ formed_arms h' (back us rest subject))
   formed_term (grammar.if {xs = xs} h) c =
       folds.fold_if formed xs ∙ both (some_branches h) (list_all-map (λ b. b) is_formed_branch xs ∙ formed_branches h c)
   formed_term (grammar.if_else {us = us} {vs = vs} {xs = xs} {ys = ys} h h') c =
@@ -152,13 +152,13 @@ mutual
   pub formed_branches : {n : ℕ} {us : Kinds} {xs : List Branch} → IsBranches n us xs → Carried us → list_all is_formed_branch xs ≡ true
   formed_branches (grammar.branch_last {us = us} {vs = vs} {a = a} {ys = ys} h h') c =
       both (folds.fold_branch formed a ys ∙ both (formed_expr h (front us vs c))
-        (list_all-map (λ b. b) is_formed_stmt ys ∙ formed_block h' (back us vs c))) refl
+      (list_all-map (λ b. b) is_formed_stmt ys ∙ formed_block h' (back us vs c))) refl
   formed_branches (grammar.branch_elif {us = us} {vs = vs} {ws = ws} {a = a} {ys = ys} h h' h'') c =
       let rest = vs ++ k.Keyword w.KwElif ∷ ws in
       let behind = back us rest c in
       both (folds.fold_branch formed a ys
       ∙ both (formed_expr h (front us rest c))
-        (list_all-map (λ b. b) is_formed_stmt ys ∙ formed_block h' (front vs (k.Keyword w.KwElif ∷ ws) behind)))
+      (list_all-map (λ b. b) is_formed_stmt ys ∙ formed_block h' (front vs (k.Keyword w.KwElif ∷ ws) behind)))
       (formed_branches h'' (back vs (k.Keyword w.KwElif ∷ ws) behind))
 
   pub formed_arms : {n : ℕ} {us : Kinds} {xs : List Arm} → IsArms n us xs → Carried us → list_all is_formed_arm xs ≡ true

@@ -181,7 +181,7 @@ parts_at called kind ks h =
 
 spaced_reads : (called : Bool) (at : ℕ) (kind : TokenKind) (ks : Kinds) → is_call kind ≡ false → is_lexed kind ≡ true
     → Reads (spot (is_callee kind) (at + 1 + length (bytes_of kind)) (behind ks)) ks
-        → Reads (spot called at (32 ∷ bytes_of kind ++ behind ks)) (kind ∷ ks)
+    → Reads (spot called at (32 ∷ bytes_of kind ++ behind ks)) (kind ∷ ks)
 spaced_reads called at kind ks plain lexed more =
     blank_reads called at (bytes_of kind ++ behind ks) (kind ∷ ks)
     (token_reads false (at + 1) kind (bytes_of kind) (behind ks) ks (stands kind (behind ks) lexed plain (behind_stops ks)) more)
@@ -212,7 +212,7 @@ first_reads : (kind : TokenKind) (ks : Kinds) → is_call kind ≡ false → wit
 first_reads kind ks plain first h =
     let is = parts_at false kind ks h in
     let same : text_of (kind ∷ ks) ≡ bytes_of kind ++ behind ks =
-        ap (λ u. written u ks) first ∙ first_written (bytes_of kind) ks (some_bytes kind is.1 plain) in
+    ap (λ u. written u ks) first ∙ first_written (bytes_of kind) ks (some_bytes kind is.1 plain) in
     subst (λ t. Reads (start t) (kind ∷ ks)) (sym same)
     (token_reads false 0 kind (bytes_of kind) (behind ks) ks (stands kind (behind ks) is.1 plain (behind_stops ks))
     (reads_behind ks (is_callee kind) (0 + length (bytes_of kind)) is.2))

@@ -55,7 +55,7 @@ mutual
       one_more (λ m. IsCalls m f ks a) m b (λ m b. grammar.calls_unit (more_calls m b h))
   more_calls {f = f} {ks = ks} {a = a} m b (grammar.calls_call h h') =
       one_more (λ m. IsCalls m f ks a) m b
-        (λ m b. one_more (λ m. IsCalls (suc m) f ks a) m b (λ m b. grammar.calls_call (more_expr m b h) (more_calls (suc m) (omega arith) h')))
+      (λ m b. one_more (λ m. IsCalls (suc m) f ks a) m b (λ m b. grammar.calls_call (more_expr m b h) (more_calls (suc m) (omega arith) h')))
 
   pub more_atom : {n : ℕ} {ks : Kinds} {a : Expr} (m : ℕ) → n ≤ m → IsAtom n ks a → IsAtom m ks a
   more_atom m b grammar.number = grammar.number

@@ -90,7 +90,7 @@ items_levels q r (t ∷ ps) = refl
 
 items_fit : (x : (a : Expr) × ExprFits a) (xs : Each ExprFits) → list_all is_formed_expr (nodes (x ∷ xs)) ≡ true → (n : ℕ)
     → (tuple (items_in (map part_of_expr (nodes (x ∷ xs))))).levels ≤ n
-        → IsItems n (tuple (items_in (map part_of_expr (nodes (x ∷ xs))))).tokens (nodes (x ∷ xs))
+    → IsItems n (tuple (items_in (map part_of_expr (nodes (x ∷ xs))))).tokens (nodes (x ∷ xs))
 items_fit x [] h n below = fits_last (part_of_expr x.0) x.0 (x.1 (and_parts (is_formed_expr x.0) true h).0) n (omega arith)
 items_fit x (y ∷ ys) h n below =
     let both = and_parts (is_formed_expr x.0) (list_all is_formed_expr (nodes (y ∷ ys))) h in
@@ -100,7 +100,7 @@ items_fit x (y ∷ ys) h n below =
 
 pats_fit : (x : (a : Pat) × PatternFits a) (xs : Each PatternFits) → list_all is_formed_pat (nodes (x ∷ xs)) ≡ true → (n : ℕ)
     → (tuple (map as_term (map part_of_pat (nodes (x ∷ xs))))).levels ≤ n
-        → IsPats n (tuple (map as_term (map part_of_pat (nodes (x ∷ xs))))).tokens (nodes (x ∷ xs))
+    → IsPats n (tuple (map as_term (map part_of_pat (nodes (x ∷ xs))))).tokens (nodes (x ∷ xs))
 pats_fit x [] h n below = grammar.pats_last (fits_pterm (part_of_pat x.0) x.0 (x.1 (and_parts (is_formed_pat x.0) true h).0) n (omega arith))
 pats_fit x (y ∷ ys) h n below =
     let both = and_parts (is_formed_pat x.0) (list_all is_formed_pat (nodes (y ∷ ys))) h in
@@ -110,26 +110,30 @@ arms_fit : (x : (a : Arm) × ArmFits a) (xs : Each ArmFits) → list_all is_form
     → levels_in (map piece_of_arm (nodes (x ∷ xs))) ≤ n → IsArms n (in_line (map piece_of_arm (nodes (x ∷ xs)))) (nodes (x ∷ xs))
 arms_fit x [] h n below =
     subst (λ ks. IsArms n ks (x.0 ∷ [])) (sym (append-nil (piece_of_arm x.0).tokens))
-      (grammar.arms_last (x.1 (and_parts (is_formed_arm x.0) true h).0 n (omega arith)))
+    (grammar.arms_last (x.1 (and_parts (is_formed_arm x.0) true h).0 n (omega arith)))
 arms_fit x (y ∷ ys) h n below =
     let both = and_parts (is_formed_arm x.0) (list_all is_formed_arm (nodes (y ∷ ys))) h in
     grammar.arms_more (x.1 both.0 n (omega arith)) (arms_fit y ys both.1 n (omega arith))
 
+last_branch : {n : ℕ} {ks : Kinds} {x : Branch} → IsBranch n ks x → IsBranches n ks (x ∷ [])
+last_branch {n} {ks} {x} is =
+    subst (λ b. IsBranches n ks (b ∷ [])) is.made
+    (subst (λ us. IsBranches n us (branch is.a is.ys ∷ [])) is.split (grammar.branch_last is.condition is.statements))
+
+more_branches : {n : ℕ} {ks ws : Kinds} {x : Branch} {xs : List Branch} → IsBranch n ks x → IsBranches n ws xs
+    → IsBranches n (ks ++ k.Keyword w.KwElif ∷ ws) (x ∷ xs)
+more_branches {n} {ks} {ws} {x} {xs} is more =
+    subst (λ b. IsBranches n (ks ++ k.Keyword w.KwElif ∷ ws) (b ∷ xs)) is.made
+    (subst (λ us. IsBranches n us (branch is.a is.ys ∷ xs))
+    (sym (append_assoc is.us is.vs (k.Keyword w.KwElif ∷ ws)) ∙ ap (λ z. z ++ k.Keyword w.KwElif ∷ ws) is.split)
+    (grammar.branch_elif is.condition is.statements more))
+
 branches_fit : (x : (a : Branch) × BranchFits a) (xs : Each BranchFits) → list_all is_formed_branch (nodes (x ∷ xs)) ≡ true → (n : ℕ)
     → levels_in (map piece_of_branch (nodes (x ∷ xs))) ≤ n → IsBranches n (branches (map piece_of_branch (nodes (x ∷ xs)))) (nodes (x ∷ xs))
-branches_fit x [] h n below =
-    let is = x.1 (and_parts (is_formed_branch x.0) true h).0 n (omega arith) in
-    subst (λ b. IsBranches n (piece_of_branch x.0).tokens (b ∷ [])) is.made
-    (subst (λ ks. IsBranches n ks (branch is.a is.ys ∷ [])) is.split (grammar.branch_last is.condition is.statements))
+branches_fit x [] h n below = last_branch (x.1 (and_parts (is_formed_branch x.0) true h).0 n (omega arith))
 branches_fit x (y ∷ ys) h n below =
     let both = and_parts (is_formed_branch x.0) (list_all is_formed_branch (nodes (y ∷ ys))) h in
-    let is = x.1 both.0 n (omega arith) in
-    let rest = branches (map piece_of_branch (nodes (y ∷ ys))) in
-    let more = branches_fit y ys both.1 n (omega arith) in
-    subst (λ b. IsBranches n ((piece_of_branch x.0).tokens ++ k.Keyword w.KwElif ∷ rest) (b ∷ nodes (y ∷ ys))) is.made
-    (subst (λ ks. IsBranches n ks (branch is.a is.ys ∷ nodes (y ∷ ys)))
-    (sym (append_assoc is.us is.vs (k.Keyword w.KwElif ∷ rest)) ∙ ap (λ z. z ++ k.Keyword w.KwElif ∷ rest) is.split)
-    (grammar.branch_elif is.condition is.statements more))
+    more_branches (x.1 both.0 n (omega arith)) (branches_fit y ys both.1 n (omega arith))
 
 -- ---- nodes with lists
 
@@ -180,14 +184,14 @@ if_else_fits (x ∷ xs) ys h =
     let bs = nodes (x ∷ xs) in
     let some = nat_le 1 (length (map is_formed_branch bs)) in
     let both =
-        and_parts (some && all (map is_formed_branch bs)) (all (map is_formed_stmt (nodes ys))) (sym (folds.fold_if_else formed bs (nodes ys)) ∙ h) in
+    and_parts (some && all (map is_formed_branch bs)) (all (map is_formed_stmt (nodes ys))) (sym (folds.fold_if_else formed bs (nodes ys)) ∙ h) in
     let conditions = (and_parts some (all (map is_formed_branch bs)) both.0).1 in
     subst (λ q. Fits q (e.If bs (Some (nodes ys)))) (sym (folds.fold_if_else parts bs (nodes ys)))
     (deeper (max (levels_in (map piece_of_branch bs)) (levels (nodes ys)))
     (λ n. IsTerm n (k.Keyword w.KwIf ∷ branches (map piece_of_branch bs) ++ k.Keyword w.KwElse ∷ block (map piece_of_stmt (nodes ys)))
-      (e.If bs (Some (nodes ys))))
+    (e.If bs (Some (nodes ys))))
     (λ n below. grammar.if_else (branches_fit x xs (all_formed is_formed_branch bs conditions) n (omega arith))
-      (block_fits ys both.1 n (omega arith))))
+    (block_fits ys both.1 n (omega arith))))
 
 -- ---- the other nodes
 
@@ -204,8 +208,11 @@ abs_fits x a fits fits' h =
 name_fits : (t : List ℕ) → ExprFits (e.Var t)
 name_fits t h =
     subst (λ q. Fits q (e.Var t)) (sym (folds.fold_var parts t))
-    (record { within = omega arith; chain = λ n m below same. subst (λ m. IsChain n m (k.Name t ∷ []) (e.Var t))
-      (let is : suc n ≡ m = omega arith in is) (atom_chain grammar.name) })
+    (record {
+      within = omega arith;
+      chain = λ n m below same. subst (λ m. IsChain n m (k.Name t ∷ []) (e.Var t))
+          (let is : suc n ≡ m = omega arith in is) (atom_chain grammar.name);
+    })
 
 block_expr_fits : (xs : Each StmtFits) → ExprFits (e.Block (nodes xs))
 block_expr_fits xs h =
@@ -218,7 +225,7 @@ block_expr_fits xs h =
           let is : suc n ≡ m = omega arith in
           subst (λ m. IsChain n m ks (e.Block (nodes xs))) is
           (deeper (levels (nodes xs)) (λ n. IsChain n (suc n) ks (e.Block (nodes xs)))
-            (λ n below. atom_chain (grammar.block (block_fits xs inside n below))) n below);
+          (λ n below. atom_chain (grammar.block (block_fits xs inside n below))) n below);
     })
 
 call_fits : (f a : Expr) → ExprFits f → ExprFits a → ExprFits (e.Call f a)

@@ -44,8 +44,14 @@ mutual
   sized_stmt (grammar.let_is {us = us} {vs = vs} {x = x} {a = a} h h') =
       omega (arith, folds.fold_let sized x a, weight_of_kinds-append us (k.Equals ∷ vs), sized_pat h, sized_expr h')
   sized_stmt (grammar.let_unit {f = f} {a = a} h) =
-      omega (arith, folds.fold_let sized (p.Bind f) (e.Abs p.Nil a), folds.fold_bind sized f, folds.fold_abs sized p.Nil a, folds.fold_pat_nil sized,
-        sized_expr h)
+      omega (
+        arith,
+        folds.fold_let sized (p.Bind f) (e.Abs p.Nil a),
+        folds.fold_bind sized f,
+        folds.fold_abs sized p.Nil a,
+        folds.fold_pat_nil sized,
+        sized_expr h,
+      )
   sized_stmt (grammar.let_fun {f = f} {us = us} {vs = vs} {x = x} {a = a} h h') =
       omega (
         arith,
@@ -76,8 +82,14 @@ mutual
 
   pub sized_items : {n : ℕ} {us : Kinds} {xs : List Expr} → IsItems n us xs → sum (map size_of_expr xs) ≤ weight_of_kinds us
   sized_items (grammar.item_abs {us = us} {vs = vs} {x = x} {a = a} h h') =
-      omega (arith, sum-cons size_of_expr (e.Abs x a) [], folds.fold_abs sized x a, weight_of_kinds-append us (k.Dot ∷ vs), sized_pat h,
-        sized_expr h')
+      omega (
+        arith,
+        sum-cons size_of_expr (e.Abs x a) [],
+        folds.fold_abs sized x a,
+        weight_of_kinds-append us (k.Dot ∷ vs),
+        sized_pat h,
+        sized_expr h',
+      )
   sized_items (grammar.item_last {a = a} h) = omega (arith, sum-cons size_of_expr a [], sized_term h)
   sized_items (grammar.item_comma {us = us} {vs = vs} {a = a} {xs = xs} h h') =
       omega (arith, sum-cons size_of_expr a xs, weight_of_kinds-append us (k.Comma ∷ vs), sized_term h, sized_items h')
@@ -125,8 +137,14 @@ mutual
 
   pub sized_branches : {n : ℕ} {us : Kinds} {xs : List Branch} → IsBranches n us xs → sum (map size_of_branch xs) ≤ weight_of_kinds us
   sized_branches (grammar.branch_last {us = us} {vs = vs} {a = a} {ys = ys} h h') =
-      omega (arith, sum-cons size_of_branch (grammar.branch a ys) [], folds.fold_branch sized a ys, weight_of_kinds-append us vs, sized_expr h,
-        sized_block h')
+      omega (
+        arith,
+        sum-cons size_of_branch (grammar.branch a ys) [],
+        folds.fold_branch sized a ys,
+        weight_of_kinds-append us vs,
+        sized_expr h,
+        sized_block h',
+      )
   sized_branches (grammar.branch_elif {us = us} {vs = vs} {ws = ws} {a = a} {ys = ys} {xs = xs} h h' h'') =
       omega (
         arith,

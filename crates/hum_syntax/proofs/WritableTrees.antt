@@ -125,7 +125,7 @@ items_write (x ∷ y ∷ ys) h =
     let is = x.1 both.0 in
     subst Writes (sym (items_more x.0 y.0 (nodes ys)))
     (beside (as_term q).tokens (k.Comma ∷ (tuple (items_in (map part_of_expr (nodes (y ∷ ys))))).tokens) (parens_write (is_wide q.form) q is.writes)
-      (items_write (y ∷ ys) both.1))
+    (items_write (y ∷ ys) both.1))
 
 pats_write : (xs : Each PatternWrites) → list_all is_formed_pat (nodes xs) ≡ true → Writes (tuple (map as_term (map part_of_pat (nodes xs)))).tokens
 pats_write [] h = refl
@@ -134,7 +134,7 @@ pats_write (x ∷ y ∷ ys) h =
     let q = part_of_pat x.0 in
     let both = and_parts (is_formed_pat x.0) (list_all is_formed_pat (nodes (y ∷ ys))) h in
     beside (as_term q).tokens (k.Comma ∷ (tuple (map as_term (map part_of_pat (nodes (y ∷ ys))))).tokens)
-      (parens_write (is_wide q.form) q (x.1 both.0)) (pats_write (y ∷ ys) both.1)
+    (parens_write (is_wide q.form) q (x.1 both.0)) (pats_write (y ∷ ys) both.1)
 
 arms_write : (xs : Each ArmWrites) → list_all is_formed_arm (nodes xs) ≡ true → Writes (in_line (map piece_of_arm (nodes xs)))
 arms_write [] h = refl
@@ -148,7 +148,7 @@ branches_write (x ∷ []) h = x.1 (and_parts (is_formed_branch x.0) true h).0
 branches_write (x ∷ y ∷ ys) h =
     let both = and_parts (is_formed_branch x.0) (list_all is_formed_branch (nodes (y ∷ ys))) h in
     beside (piece_of_branch x.0).tokens (k.Keyword w.KwElif ∷ branches (map piece_of_branch (nodes (y ∷ ys)))) (x.1 both.0)
-      (branches_write (y ∷ ys) both.1)
+    (branches_write (y ∷ ys) both.1)
 
 -- ---- nodes
 

@@ -18,7 +18,7 @@ written-append t us vs = fold-append with_token t us vs
 
 -- a list with marks between its items: the loop that writes one item after another
 module _ {X : Type 0} (mark : TokenKind) (last inner : X → Kinds) (tokens : List X → Kinds) (none : tokens [] ≡ [])
-  (one : (x : X) → tokens (x ∷ []) ≡ last x)
+    (one : (x : X) → tokens (x ∷ []) ≡ last x)
     (more : (x y : X) (ys : List X) → tokens (x ∷ y ∷ ys) ≡ inner x ++ mark ∷ tokens (y ∷ ys)) where
   item_first : (xs : List X) (i : ℕ) (x : X) → x ≡ get_or xs i x → i < length xs → drop i xs ≡ x ∷ drop (suc i) xs
   item_first xs i x is within = drop-cons xs i x within ∙ ap (λ y. y ∷ drop (suc i) xs) (sym is)

@@ -87,8 +87,7 @@ fn expr(out: &mut Writer, e: &Expr) -> Result<(), AllocError>
 fn tuple(out: &mut Writer, items: &[Expr]) -> Result<(), AllocError>
     ensures { OnOk result (out.new ≡ written out.old (spec.tuple (spec.items_in (map part_of_expr items.now))).tokens) }
 {
-    for i in 0..items.len() {
-        let item = &items[i];
+    for (i, item) in items.iter().enumerate() {
         if i + 1 == items.len() {
             part(out, item, form_of_expr(item).is_tuple())?;
         } else {
@@ -116,8 +115,8 @@ fn arms(out: &mut Writer, arms: &[Arm]) -> Result<(), AllocError>
 fn branches(out: &mut Writer, branches: &[Branch]) -> Result<(), AllocError>
     ensures { OnOk result (out.new ≡ written out.old (spec.branches (map piece_of_branch branches.now))) }
 {
-    for i in 0..branches.len() {
-        branch(out, &branches[i])?;
+    for (i, each) in branches.iter().enumerate() {
+        branch(out, each)?;
         if i + 1 < branches.len() {
             out.keyword(Keyword::KwElif)?;
         }
@@ -228,8 +227,7 @@ fn pat(out: &mut Writer, p: &Pat) -> Result<(), AllocError>
 fn pat_tuple(out: &mut Writer, items: &[Pat]) -> Result<(), AllocError>
     ensures { OnOk result (out.new ≡ written out.old (spec.tuple (map spec.as_term (map part_of_pat items.now))).tokens) }
 {
-    for i in 0..items.len() {
-        let item = &items[i];
+    for (i, item) in items.iter().enumerate() {
         pat_part(out, item, form_of_pat(item).is_wide())?;
         if i + 1 < items.len() {
             out.token(&TokenKind::Comma)?;
