@@ -1,1 +1,5 @@
+mod Computing
 mod Rows
+mod Numbers
+mod Parts
+mod NameForms

@@ -5,3 +5,4 @@ pub mod Lines
 pub mod Faults
 pub mod Assembles
 pub mod Links
+pub mod Reading

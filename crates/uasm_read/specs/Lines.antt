@@ -13,7 +13,7 @@ use Rattle.uasm_read.specs.Texts.{Bytes, Name, is_ascii, is_semicolon, last_byte
 use Rattle.uasm_read.specs.Operations.{row_of, operation_of, value_of, operand_of}
 
 -- the name that stands alone
-abbrev pub name_alone : List Bytes → Option Name
+unfoldable pub name_alone : List Bytes → Option Name
 name_alone (part ∷ []) = if is_name part then Some part else None
 name_alone parts = None
 
@@ -23,7 +23,7 @@ directive form None = Bad cause.BadLine
 directive form (Some name) = form name
 
 -- the name of a label, which a colon follows
-abbrev pub label_in : Bytes → Option Name
+unfoldable pub label_in : Bytes → Option Name
 label_in part = if last_byte part == 58 && is_name (before_last_byte part) then Some (before_last_byte part) else None
 
 -- a label, behind which nothing stands
@@ -37,12 +37,12 @@ cell_of (Some t) (Some x) (Some y) (Some z) = Cell t x y z
 cell_of t x y z = Bad cause.BadOperand
 
 -- `pair_t X Y`
-abbrev pub pair_line : List Bytes → Line
+unfoldable pub pair_line : List Bytes → Line
 pair_line (x ∷ y ∷ []) = cell_of (Some (Const 10)) (value_of x) (value_of y) (Some (Const 0))
 pair_line parts = Bad cause.BadOperand
 
 -- `cell T X Y Z`
-abbrev pub cell_line : List Bytes → Line
+unfoldable pub cell_line : List Bytes → Line
 cell_line (t ∷ x ∷ y ∷ z ∷ []) = cell_of (value_of t) (value_of x) (value_of y) (value_of z)
 cell_line parts = Bad cause.BadOperand
 
@@ -56,7 +56,7 @@ instruction_line None parts = Bad cause.NoOperation
 instruction_line (Some operation) parts = instruction_of operation (operand_of (row_of operation).operand parts)
 
 -- a line that begins with a name
-abbrev pub item_line : Name → List Bytes → Line
+unfoldable pub item_line : Name → List Bytes → Line
 item_line name parts =
     if bytes_eq name (codes "ref") then Next (name_alone parts) else
     if bytes_eq name (codes "pair_t") then pair_line parts else

@@ -1,6 +1,6 @@
 -- Modules, and the rule that they keep.
 use Rattle.std.specs.Prelude.{ℕ, ◌+◌, ◌-◌, ℤ, pos, ◌+ℤ◌, Bool, true, false, not, ◌&&◌, ◌||◌, if◌then◌else◌, nat_eq, nat_lt, List, [], ◌∷◌, ◌++◌, length, Option, Some, None, is_some}
-use Rattle.std.specs.List.{list_all, flat_map, find, slice_split}
+use Rattle.std.specs.List.{list_all, flat_map, find}
 use Rattle.std.specs.Ordering.{int_eq}
 use Rattle.cap_words.specs.Fixnums.{in_range}
 use Rattle.instr_table.specs.Code.{within, turns}
@@ -8,7 +8,7 @@ use Rattle.uasm_read.specs.declared.operand.Operand.{Operand}
 use Rattle.uasm_read.specs.declared.operand.Operand.TheVariants.{Fix, Const, Label, Following}
 use Rattle.uasm_read.specs.declared.operation.Operation.{Operation}
 use Rattle.uasm_read.specs.declared.item.Item.{Item}
-use Rattle.uasm_read.specs.Texts.{Name, is_blank, is_name, has_name}
+use Rattle.uasm_read.specs.Texts.{Name, parts_of, is_name, has_name}
 use Rattle.uasm_read.specs.Operations.{Shape, Value, Nothing, Within, Turn, Choice, row_of, operations, goes_on}
 
 -- a module: the names that it takes from others, the names that it gives to others, and its items in order
@@ -44,7 +44,7 @@ fits Value word = is_word word
 fits Nothing (Const k) = nat_eq k 0
 fits (Within low high) (Fix n) = within low high n
 fits (Turn most) (Fix n) = turns most n
-fits (Choice from words) (Fix n) = within from (from +ℤ pos (length (slice_split is_blank words) - 1)) n
+fits (Choice from words) (Fix n) = within from (from +ℤ pos (length (parts_of words) - 1)) n
 fits shape word = false
 
 -- the operation of that number

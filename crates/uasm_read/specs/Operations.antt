@@ -1,6 +1,6 @@
 -- The operations' names, numbers and operands.
 use Rattle.std.specs.Prelude.{ℕ, ◌+◌, ℤ, pos, negsuc, ◌+ℤ◌, Bool, true, false, if◌then◌else◌, List, [], ◌∷◌, map, Option, Some, None, option_map, codes}
-use Rattle.std.specs.List.{slice_split, find}
+use Rattle.std.specs.List.{find}
 use Rattle.std.specs.Option.{option_or}
 use Rattle.std.specs.Str.{bytes_eq}
 use Rattle.instr_table.specs.Code.{within, turns, passing}
@@ -8,7 +8,7 @@ use Rattle.uasm_read.specs.declared.operand.Operand.{Operand}
 use Rattle.uasm_read.specs.declared.operand.Operand.TheVariants.{Fix, Const, Label}
 use Rattle.uasm_read.specs.declared.operation.Operation.{Operation}
 use Rattle.uasm_read.specs.declared.operation.Operation.TheVariants as o
-use Rattle.uasm_read.specs.Texts.{Bytes, is_blank, is_name, fixnum_of, constant_names, place_of}
+use Rattle.uasm_read.specs.Texts.{Bytes, is_name, fixnum_of, constant_names, place_of}
 
 -- what an operation has as its operand
 pub data Shape : Type 0 where
@@ -69,7 +69,7 @@ operations =
     o.Jump ∷ o.Msg ∷ o.State ∷ o.My ∷ o.Actor ∷ o.End ∷ o.Dict ∷ o.Deque ∷ o.Sponsor ∷ o.Assert ∷ o.Debug ∷ []
 
 -- the operation of that name
-abbrev pub operation_of : Bytes → Option Operation
+unfoldable pub operation_of : Bytes → Option Operation
 operation_of part = find (λ operation. bytes_eq part (row_of operation).name) operations
 
 -- `end` and `jump` go on at no next instruction
@@ -79,21 +79,26 @@ goes_on o.Jump = false
 goes_on _ = true
 
 -- a fixnum, a constant or a name
-abbrev pub value_of : Bytes → Option Operand
+unfoldable pub value_of : Bytes → Option Operand
 value_of part =
     option_or (option_map Fix (fixnum_of part))
     (option_or (option_map Const (place_of part constant_names)) (if is_name part then Some (Label part) else None))
 
 -- the operand that a part writes
-abbrev pub operand_in : Shape → Bytes → Option Operand
+unfoldable pub operand_in : Shape → Bytes → Option Operand
 operand_in Value part = value_of part
 operand_in Nothing part = None
 operand_in (Within low high) part = option_map Fix (passing (within low high) (fixnum_of part))
 operand_in (Turn most) part = option_map Fix (passing (turns most) (fixnum_of part))
-operand_in (Choice first words) part = option_map (λ k. Fix (first +ℤ pos k)) (place_of part (slice_split is_blank words))
+operand_in (Choice first words) part = option_map (λ k. Fix (first +ℤ pos k)) (place_of part words)
+
+-- the operation has no operand
+abbrev pub is_alone : Shape → Bool
+is_alone Nothing = true
+is_alone shape = false
 
 -- the operand that stands behind an operation
-abbrev pub operand_of : Shape → List Bytes → Option Operand
+unfoldable pub operand_of : Shape → List Bytes → Option Operand
+operand_of shape [] = if is_alone shape then Some (Const 0) else None
 operand_of shape (part ∷ []) = operand_in shape part
-operand_of Nothing [] = Some (Const 0)
 operand_of shape parts = None

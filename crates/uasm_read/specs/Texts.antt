@@ -1,7 +1,7 @@
 -- What a text is made of: lines, their parts, names and numbers.
 use Rattle.std.specs.Prelude.{ℕ, ◌+◌, ◌-◌, ◌*◌, ℤ, pos, neg_ℤ, Bool, not, ◌&&◌, ◌||◌, if◌then◌else◌, ◌==◌, false, nat_le, nat_lt, List, [], ◌∷◌, length, take, map, filter, slice_index, Option, Some, None, option_map, codes}
 use Rattle.std.specs.Char.{is_ascii_digit}
-use Rattle.std.specs.List.{list_all, list_any, slice_split, position, before_first}
+use Rattle.std.specs.List.{list_all, list_any, slice_split, position_from, before_first}
 use Rattle.std.specs.Str.{bytes_eq}
 use Rattle.cap_words.specs.Fixnums.{in_range}
 
@@ -45,11 +45,11 @@ without_returns (last ∷ []) = last ∷ []
 without_returns (line ∷ next ∷ lines) = without_return line ∷ without_returns (next ∷ lines)
 
 -- the lines of a text
-abbrev pub lines_of : Bytes → List Bytes
+unfoldable pub lines_of : Bytes → List Bytes
 lines_of text = without_returns (slice_split is_line_feed text)
 
 -- the parts that blanks separate
-abbrev pub parts_of : Bytes → List Bytes
+unfoldable pub parts_of : Bytes → List Bytes
 parts_of line = filter (λ part. not (length part == 0)) (slice_split is_blank line)
 
 -- ---- names
@@ -62,7 +62,7 @@ abbrev pub is_name_byte : ℕ → Bool
 is_name_byte b = is_letter b || is_ascii_digit b
 
 -- a letter or `_`, then letters, digits and `_`, at most 128 bytes
-abbrev pub is_name : Bytes → Bool
+unfoldable pub is_name : Bytes → Bool
 is_name [] = false
 is_name (b ∷ bs) = is_letter b && list_all is_name_byte bs && nat_le (length (b ∷ bs)) 128
 
@@ -90,16 +90,13 @@ abbrev pub decimal_value : Bytes → ℤ
 decimal_value part = let size = pos (value_from 0 (digits_of part)) in if slice_index part 0 == 45 then neg_ℤ size else size
 
 -- the number of a fixnum, if the part is one
-abbrev pub fixnum_of : Bytes → Option ℤ
+unfoldable pub fixnum_of : Bytes → Option ℤ
 fixnum_of part = if is_decimal part && in_range (decimal_value part) then Some (decimal_value part) else None
 
 -- the constants' names, from number 0 on
-abbrev pub constant_names : List Bytes
-constant_names =
-    codes "#?" ∷ codes "#nil" ∷ codes "#f" ∷ codes "#t" ∷ codes "#type_t" ∷ codes "#fixnum_t" ∷ codes "#actor_t" ∷ codes "#sponsor_t" ∷
-    codes "#event_t" ∷ codes "#instr_t" ∷ codes "#pair_t" ∷ codes "#dict_t" ∷ codes "#deque_t" ∷ codes "#symbol_t" ∷ codes "#func_t" ∷
-    codes "#block_t" ∷ []
+abbrev pub constant_names : Bytes
+constant_names = codes "#? #nil #f #t #type_t #fixnum_t #actor_t #sponsor_t #event_t #instr_t #pair_t #dict_t #deque_t #symbol_t #func_t #block_t"
 
--- where a list has the bytes
-abbrev pub place_of : Bytes → List Bytes → Option ℕ
-place_of bytes list = position (bytes_eq bytes) list
+-- which of these words the part is, counted from 0
+unfoldable pub place_of : Bytes → Bytes → Option ℕ
+place_of part words = position_from (bytes_eq part) 0 (parts_of words)

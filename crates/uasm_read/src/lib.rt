@@ -4,8 +4,11 @@
 mod error;
 mod item;
 mod line;
+mod lines;
 mod operand;
+mod operands;
 mod operation;
+mod texts;
 
 pub use error::{ReadModuleError, UasmCause, UasmRefused};
 pub use item::{Item, Items, Names};

@@ -136,6 +136,7 @@ impl Operation {
     }
 
     /// The operation of that name.
+    #[tactic(auto, unfolding(crate::specs::Operations::operation_of))]
     pub fn of_name(part: &[u8]) -> Option<Operation>
         ensures { result ≡ spec.operation_of part.now }
     {
