@@ -3,3 +3,4 @@ mod Rows
 mod Numbers
 mod Parts
 mod NameForms
+mod Searches

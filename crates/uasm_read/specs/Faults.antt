@@ -72,35 +72,42 @@ is_no_end (Cell t x y z) = true
 is_no_end (Bad why) = true
 is_no_end line = false
 
--- nothing but blanks stands behind an instruction
-unfoldable pub follows_instruction : List Line → Bool
-follows_instruction (Blank ∷ before) = follows_instruction before
-follows_instruction (Instruction operation operand ∷ before) = true
-follows_instruction before = false
+-- whether nothing but blanks stands behind an instruction, by the line and by whether that holds before it
+abbrev pub follows_after : Line → Bool → Bool
+follows_after Blank before = before
+follows_after (Instruction operation operand) before = true
+follows_after line before = false
 
-abbrev pub name_fault : List Line → Name → Option UasmCause
-name_fault before name = fault_if (has_name (defined_in before) name) cause.Twice
+unfoldable pub follows_instruction : List Line → Bool
+follows_instruction [] = false
+follows_instruction (line ∷ before) = follows_after line (follows_instruction before)
 
 abbrev pub next_fault : Bool → Option Name → Option UasmCause
 next_fault false name = Some cause.BadLine
 next_fault true None = Some cause.BadOperand
 next_fault true (Some name) = None
 
--- Why a line is refused whatever the names mean: it has no form; a `ref` that follows no instruction; a label at the end of the text; a
--- label or import that another line before it has.
+-- Why a line is refused whatever the names mean: it has no form; a `ref` that follows no instruction; a label at the end of the text, which
+-- no item follows; a label or import that stands before it already.
+abbrev pub fault_by : (Name → Bool) → Bool → Bool → Line → Option UasmCause
+fault_by stands follows_instruction item_follows (Bad why) = Some why
+fault_by stands follows_instruction item_follows (Next name) = next_fault follows_instruction name
+fault_by stands follows_instruction item_follows (Label name) = if item_follows then fault_if (stands name) cause.Twice else Some cause.BadLine
+fault_by stands follows_instruction item_follows (Import name) = fault_if (stands name) cause.Twice
+fault_by stands follows_instruction item_follows line = None
+
 abbrev pub line_fault : List Line → Line → List Line → Option UasmCause
-line_fault before (Bad why) after = Some why
-line_fault before (Next name) after = next_fault (follows_instruction before) name
-line_fault before (Label name) after = if list_any is_no_end after then name_fault before name else Some cause.BadLine
-line_fault before (Import name) after = name_fault before name
-line_fault before line after = None
+line_fault before line after = fault_by (has_name (defined_in before)) (follows_instruction before) (list_any is_no_end after) line
 
 -- ---- names
 
 -- why a line is refused among all lines: it uses what is neither label nor import, or exports what is no label
+abbrev pub unknown_by : (Name → Bool) → (Name → Bool) → Line → Option UasmCause
+unknown_by is_label is_known (Export name) = fault_if (not (is_label name)) cause.Unknown
+unknown_by is_label is_known line = fault_if (not (list_all is_known (used_by line))) cause.Unknown
+
 abbrev pub name_unknown : List Line → List Line → Line → List Line → Option UasmCause
-name_unknown lines before (Export name) after = fault_if (not (has_name (labels_of lines) name)) cause.Unknown
-name_unknown lines before line after = fault_if (not (list_all (has_name (defined_in lines)) (used_by line))) cause.Unknown
+name_unknown lines before line after = unknown_by (has_name (labels_of lines)) (has_name (defined_in lines)) line
 
 -- ---- what goes on
 
@@ -118,10 +125,13 @@ instruction_follows (Cell t x y z ∷ after) = is_instr_t t
 instruction_follows (line ∷ after) = instruction_follows after
 
 -- why an instruction is refused: it would go on at the item after it, and there is none or it is no instruction
-abbrev pub falls_off : List Line → Line → List Line → Option UasmCause
-falls_off before (Instruction operation operand) after =
+abbrev pub falls_by : Line → List Line → Option UasmCause
+falls_by (Instruction operation operand) after =
     fault_if (goes_on operation && (not (is_some (next_named after)) && not (instruction_follows after))) cause.FallsOff
-falls_off before line after = None
+falls_by line after = None
+
+abbrev pub falls_off : List Line → Line → List Line → Option UasmCause
+falls_off before line after = falls_by line after
 
 -- ---- all together
 

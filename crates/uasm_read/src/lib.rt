@@ -1,7 +1,9 @@
 //! Assembly text to modules.
 #![tactic(auto)]
 
+mod build;
 mod error;
+mod faults;
 mod item;
 mod line;
 mod lines;
