@@ -4,3 +4,6 @@ mod Numbers
 mod Parts
 mod NameForms
 mod Searches
+mod Formed
+mod Fits
+mod Sound

@@ -1,9 +1,9 @@
 -- The first part of a line, and the parts behind it.
-use Rattle.std.proofs.Common.{◌≡◌, ◌≢◌, ℕ, suc, ◌<◌, ◌==◌, Bool, true, false, not, List, [], ◌∷◌, length, take, drop, refl, ap, arith, one-add}
+use Rattle.std.proofs.Common.{◌≡◌, ◌≢◌, ℕ, suc, ◌<◌, ◌==◌, Bool, true, false, not, List, [], ◌∷◌, length, take, drop, refl, ap, ◌∙◌, arith, one-add}
 use Rattle.std.specs.List.{slice_split, onto_first, filter, position_or_len, prefix_len}
 use Rattle.std.proofs.lemmas.List.Folds.{length-prefix_len}
 use Rattle.std.proofs.lemmas.Bool.{ne_eqb}
-use Rattle.uasm_read.specs.Texts.{is_blank, parts_of}
+use Rattle.uasm_read.specs.Texts.{is_blank, is_line_feed, parts_of, lines_of, without_return, without_returns}
 
 abbrev IsPart : List ℕ → Bool
 IsPart part = not (length part == 0)
@@ -76,3 +76,15 @@ split_at_cases p x xs false e ih some = rw (e, one-add) (ap (onto_first x) (ih (
 pub split_at : (p : ℕ → Bool) (xs : List ℕ) → position_or_len p xs ≢ length xs → slice_split p xs ≡ take (position_or_len p xs) xs ∷ slice_split p (drop (suc (position_or_len p xs)) xs)
 split_at p [] some = absurd (some refl)
 split_at p (x ∷ xs) some = split_at_cases p x xs (p x) refl (split_at p xs) some
+
+-- the last line
+pub lines_last : (text line : List ℕ) → slice_split is_line_feed text ≡ line ∷ [] → lines_of text ≡ line ∷ []
+unfolding lines_of
+lines_last text line e = ap without_returns e
+
+-- a line that a line feed ends
+pub lines_more : (text line rest : List ℕ) → slice_split is_line_feed text ≡ line ∷ slice_split is_line_feed rest → lines_of text ≡ without_return line ∷ lines_of rest
+unfolding lines_of
+lines_more text line rest e =
+    let c = cut is_line_feed rest in
+    ap without_returns e ∙ rw c.parts refl

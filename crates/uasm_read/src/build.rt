@@ -1,15 +1,17 @@
 //! Makes the module of lines.
 
-ghost use Rattle.std.specs.Prelude.{◌≡◌, ◌++◌, ◌∷◌, [], IfOk, OnOk, Some, option_map, option_to_list, pos};
+ghost use Rattle.std.specs.Prelude.{◌≡◌, ◌++◌, ◌∷◌, [], IfOk, OnOk, Some, option_map, option_to_list, pos, IsTrue};
 ghost use Rattle.std.specs.List.{flat_map};
 ghost use Rattle.uasm_read.specs.declared.operand.Operand.TheVariants.{Fix, Const};
 ghost use Rattle.uasm_read.specs.Operations.{row_of};
 ghost use Rattle.uasm_read.specs.Faults as faults;
 ghost use Rattle.uasm_read.specs.Assembles as spec;
+ghost use Rattle.uasm_read.specs.Modules.{is_module};
 ghost use Rattle.uasm_read.specs.Reading.{directed_by};
 
-use crate::item::{Item, Names};
+use crate::item::{Item, Items, Names};
 use crate::line::Line;
+use crate::module::Module;
 use crate::operand::Operand;
 use crate::operation::Operation;
 use cap_words::Name;
@@ -50,8 +52,8 @@ fn directed_by(directive: Directive, line: &Line) -> Option<&Name>
     }
 }
 
-/// The names of a directive's lines.
-pub fn directed(alloc: Global, directive: Directive, lines: &[Line]) -> Result<Vec<Name>, AllocError>
+// The names of a directive's lines.
+fn directed(alloc: Global, directive: Directive, lines: &[Line]) -> Result<Vec<Name>, AllocError>
     ensures { IfOk result (λ names. names.items ≡ flat_map (directed_by directive) lines.now) }
 {
     let mut names = Vec::new(alloc);
@@ -146,8 +148,8 @@ fn add_line(
     }
 }
 
-/// The items of lines.
-pub fn items_of(alloc: Global, lines: &[Line]) -> Result<Vec<Item>, AllocError>
+// The items of lines.
+fn items_of(alloc: Global, lines: &[Line]) -> Result<Vec<Item>, AllocError>
     ensures { IfOk result (λ items. items.items ≡ spec.items_of [] lines.now) }
 {
     let mut items = Vec::new(alloc);
@@ -158,4 +160,16 @@ pub fn items_of(alloc: Global, lines: &[Line]) -> Result<Vec<Item>, AllocError>
         rest = more;
     }
     Ok(items)
+}
+
+/// The module of lines that none is refused of.
+#[tactic(auto, unfolding(crate::specs::Assembles::module_of, crate::specs::Faults::imports_of, crate::specs::Faults::exports_of))]
+pub fn module_of(alloc: Global, lines: &[Line]) -> Result<Module, AllocError>
+    requires { IsTrue (is_module (spec.module_of lines.now)) }
+    ensures { IfOk result (λ m. m ≡ spec.module_of lines.now) }
+{
+    let imports = Names::from_vec(directed(alloc, Directive::Imports, lines)?);
+    let exports = Names::from_vec(directed(alloc, Directive::Exports, lines)?);
+    let items = Items::from_vec(items_of(alloc, lines)?);
+    Ok(Module::from_parts(imports, exports, items))
 }

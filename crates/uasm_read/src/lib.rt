@@ -7,11 +7,15 @@ mod faults;
 mod item;
 mod line;
 mod lines;
+mod module;
 mod operand;
 mod operands;
 mod operation;
+mod read;
 mod texts;
 
 pub use error::{ReadModuleError, UasmCause, UasmRefused};
 pub use item::{Item, Items, Names};
+pub use module::Module;
 pub use operand::Operand;
+pub use read::read_module;
