@@ -1,3 +1,5 @@
+pub mod Fronts
+pub mod Sound
 mod Computing
 mod Rows
 mod Numbers
@@ -5,5 +7,4 @@ mod Parts
 mod NameForms
 mod Searches
 mod Formed
-mod Fits
-mod Sound
+pub mod Fits

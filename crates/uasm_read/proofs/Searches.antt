@@ -12,8 +12,6 @@ use Rattle.uasm_read.specs.Faults.{defined_by, defined_in, used_by, refused_or, 
 use Rattle.uasm_read.specs.Reading.{no_ends}
 use Rattle.std.proofs.lemmas.Bool.Decides.{nat_tests}
 use Rattle.std.proofs.lemmas.List.Folds.{list_any-append}
-use Rattle.std.proofs.lemmas.List.{take_rest, drop_more}
-use Rattle.std.proofs.Common.{◌≤◌, ◌<◌, take, drop, get_or, length-drop}
 
 abbrev pub Test : Type 0
 Test = List Line → Line → List Line → Option UasmCause
@@ -114,18 +112,3 @@ unknown_same labels names others more l n (Instruction operation operand) = rw (
 unknown_same labels names others more l n (Next name) = rw (all_same names more n (used_by (Next name))) refl
 unknown_same labels names others more l n (Cell t x y z) = rw (all_same names more n (used_by (Cell t x y z))) refl
 unknown_same labels names others more l n (Bad why) = refl
-
--- ---- the first item of a slice, and those behind it
-
-abbrev pub behind : {X : Type 0} → List X → List X
-behind xs = take (length xs - 1) (drop 1 xs)
-
-pub front_item : {X : Type 0} (xs : List X) (x : X) → 1 ≤ length xs → x ≡ get_or xs 0 x → xs ≡ x ∷ behind xs
-front_item xs x some is = drop_more xs 0 x (omega arith) ∙ rw (take_rest xs 1, ← is) refl
-
-pub no_item : {X : Type 0} (xs : List X) → length xs < 1 → xs ≡ []
-no_item [] none = refl
-no_item (x ∷ xs) none = absurd (let e : suc (length xs) < 1 = none in omega (arith, e))
-
-pub length-behind : {X : Type 0} (xs : List X) → 1 ≤ length xs → length (behind xs) + 1 ≡ length xs
-length-behind {X = X} xs some = rw (take_rest xs 1) (omega (arith, length-drop 1 xs))

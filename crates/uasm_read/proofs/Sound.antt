@@ -89,7 +89,7 @@ instruction_cell operation word None after fit named goes = by_next (goes_on ope
     words : is_word (operand.Const 9) && is_word (operand.Fix (pos (row_of operation).number)) && is_word word ≡ true
     words = and_from (is_word (operand.Const 9) && is_word (operand.Fix (pos (row_of operation).number))) _ (and_from (is_word (operand.Const 9)) _ refl (number_word operation)) (operand_word operation word fit)
     by_next : (b : Bool) → goes_on operation ≡ b → is_cell (operand.Const 9 ∷ operand.Fix (pos (row_of operation).number) ∷ word ∷ (if b then operand.Following else operand.Const 0) ∷ []) after ≡ true
-    by_next true on = rw (number_found operation, on) (and_from (fits (row_of operation).operand word) _ fit (goes refl on))
+    by_next true on = rw (number_word operation, number_found operation, on) (and_from (fits (row_of operation).operand word) _ fit (goes refl on))
     by_next false on = and_from (is_word (operand.Const 9) && is_word (operand.Fix (pos (row_of operation).number)) && is_word word) _ words refl
 
 plain_cell : (t x y z : Operand) (after : List Item) → is_formed (Cell t x y z) ≡ true → is_cell (t ∷ x ∷ y ∷ z ∷ []) after ≡ true

@@ -27,33 +27,33 @@ export_number at (m ∷ modules) name =
 abbrev pub first_number : ℕ
 first_number = 16
 
--- the number that a name stands for in a module whose first item has the number `at`: that of its label, or else that of an export
-abbrev pub name_number : List ModuleParts → ℕ → ModuleParts → Name → Option ℕ
-name_number modules at m name = option_or (label_number at m.items name) (export_number first_number modules name)
+-- the word that a name stands for in a module whose first item has the number `at`: the number of its label, or else that of an export
+abbrev pub name_word : List ModuleParts → ℕ → ModuleParts → Name → W
+name_word modules at m name = Rom (unwrap_or (option_or (label_number at m.items name) (export_number first_number modules name)) 0)
 
 -- ---- cells
 
 -- the word of an operand in the item of number `at`
-abbrev pub linked_word : (Name → Option ℕ) → ℕ → Operand → W
-linked_word numbers at (operand.Fix n) = Fix n
-linked_word numbers at (operand.Const k) = Rom k
-linked_word numbers at (operand.Label name) = Rom (unwrap_or (numbers name) 0)
-linked_word numbers at operand.Following = Rom (at + 1)
+abbrev pub linked_word : (Name → W) → ℕ → Operand → W
+linked_word words at (operand.Fix n) = Fix n
+linked_word words at (operand.Const k) = Rom k
+linked_word words at (operand.Label name) = words name
+linked_word words at operand.Following = Rom (at + 1)
 
-abbrev pub linked_cell : (Name → Option ℕ) → ℕ → List Operand → Quad
-linked_cell numbers at (t ∷ x ∷ y ∷ z ∷ []) =
-    record { t = linked_word numbers at t; x = linked_word numbers at x; y = linked_word numbers at y; z = linked_word numbers at z }
-linked_cell numbers at words = record { t = undef; x = undef; y = undef; z = undef }
+abbrev pub linked_cell : (Name → W) → ℕ → List Operand → Quad
+linked_cell words at (t ∷ x ∷ y ∷ z ∷ []) =
+    record { t = linked_word words at t; x = linked_word words at x; y = linked_word words at y; z = linked_word words at z }
+linked_cell words at operands = record { t = undef; x = undef; y = undef; z = undef }
 
-unfoldable pub linked_cells : (Name → Option ℕ) → ℕ → List Item → List Quad
-linked_cells numbers at [] = []
-linked_cells numbers at (item ∷ items) = linked_cell numbers at item.cell ∷ linked_cells numbers (at + 1) items
+unfoldable pub linked_cells : (Name → W) → ℕ → List Item → List Quad
+linked_cells words at [] = []
+linked_cells words at (item ∷ items) = linked_cell words at item.cell ∷ linked_cells words (at + 1) items
 
 -- the cells of modules, one after the other; the first list has all modules that are linked
 unfoldable pub linked_modules : List ModuleParts → ℕ → List ModuleParts → List Quad
 linked_modules all at [] = []
 linked_modules all at (m ∷ modules) =
-    linked_cells (name_number all at m) at m.items ++ linked_modules all (at + length m.items) modules
+    linked_cells (name_word all at m) at m.items ++ linked_modules all (at + length m.items) modules
 
 -- ---- what is not linked
 

@@ -69,7 +69,7 @@ begins_with_instruction (item ∷ items) = is_instruction item.cell
 
 -- the four words of an item before these items; the next word of an instruction may be the item after it, where that is an instruction too
 abbrev pub is_cell : List Operand → List Item → Bool
-is_cell (t ∷ x ∷ y ∷ Following ∷ []) after = is_instr_t t && may_go_on (numbered x) y && begins_with_instruction after
+is_cell (t ∷ x ∷ y ∷ Following ∷ []) after = is_instr_t t && is_word x && may_go_on (numbered x) y && begins_with_instruction after
 is_cell (t ∷ x ∷ y ∷ z ∷ []) after = is_word t && is_word x && is_word y && is_word z
 is_cell words after = false
 

@@ -2,7 +2,8 @@ use Rattle.std.proofs.Common.{◌≡◌, ℕ, ◌+◌, ◌-◌, Bool, true, fals
 use Rattle.uasm_read.specs.Faults as spec
 use Rattle.uasm_read.specs.Texts.{Name, has_name}
 use Rattle.uasm_read.specs.Reading.{holds}
-use Rattle.uasm_read.proofs.Searches.{Searched, Checked, begun, ended, refused_here, went_on, checked_test, checked_on, checked_begun, unknown_same, behind, front_item, no_item, length-behind}
+use Rattle.uasm_read.proofs.Searches.{Searched, Checked, begun, ended, refused_here, went_on, checked_test, checked_on, checked_begun, unknown_same}
+use Rattle.uasm_read.proofs.Fronts.{behind, front_item, no_item, length-behind}
 use Rattle.uasm_read.proofs.faults.first_line_fault.Goals as goal
 
 pub loop-rest-init : goal.loop-rest-init
