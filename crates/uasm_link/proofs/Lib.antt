@@ -1,3 +1,4 @@
 mod Twice
 mod Steps
 mod Bounds
+mod Images

@@ -1,6 +1,6 @@
 -- Steps of walks that number names.
-use Rattle.std.proofs.Common.{◌≡◌, ℕ, ◌+◌, Bool, true, false, List, [], ◌∷◌, ◌++◌, length, Option, Some, None, refl, sym, ap, ◌∙◌, subst}
-use Rattle.std.specs.Prelude.{◌||◌, ◌&&◌, cond, if◌then◌else◌, is_some}
+use Rattle.std.proofs.Common.{◌≡◌, ℕ, ◌+◌, Bool, true, false, List, [], ◌∷◌, ◌++◌, length, Option, Some, None, refl, sym, ap, ◌∙◌, subst, inl, inr}
+use Rattle.std.specs.Prelude.{◌||◌, ◌&&◌, not, cond, if◌then◌else◌, is_some}
 use Rattle.std.specs.List.{list_all, list_any}
 use Rattle.std.specs.Option.{option_or}
 use Rattle.std.specs.Str.{bytes_eq}
@@ -100,3 +100,42 @@ module_kept m h =
 
 pub export_found : (at : ℕ) (m : ModuleParts) (name : Name) → is_module m ≡ true → has_name m.exports name ≡ true → is_some (label_number at m.items name) ≡ true
 export_found at m name kept h = label_found at m.items name (any_passes (has_name (labels_in m.items)) m.exports name (module_kept m kept).exports h)
+
+-- ---- fronts
+
+pub label_front : (at : ℕ) (rest : List Item) (item : Item) (more : List Item) (name : Name) → rest ≡ item ∷ more → label_number at rest name ≡ (if has_name item.labels name then Some at else label_number (at + 1) more name)
+unfolding label_number
+label_front at rest item more name split = ap (λ r. label_number at r name) split
+
+pub export_front : (at : ℕ) (rest : List ModuleParts) (m : ModuleParts) (more : List ModuleParts) (name : Name) → rest ≡ m ∷ more
+    → export_number at rest name ≡ (if has_name m.exports name then label_number at m.items name else export_number (at + length m.items) more name)
+unfolding export_number
+export_front at rest m more name split = ap (λ r. export_number at r name) split
+
+pub count_front : (rest : List ModuleParts) (m : ModuleParts) (more : List ModuleParts) → rest ≡ m ∷ more → count_of_items rest ≡ length m.items + count_of_items more
+unfolding count_of_items
+count_front rest m more split = ap count_of_items split
+
+pub no_label : (at : ℕ) (name : Name) → label_number at [] name ≡ None
+unfolding label_number
+no_label at name = refl
+
+pub no_export : (at : ℕ) (name : Name) → export_number at [] name ≡ None
+unfolding export_number
+no_export at name = refl
+
+pub no_count : count_of_items [] ≡ 0
+unfolding count_of_items
+no_count = refl
+
+pub none_of : {X : Type 0} (o : Option X) → is_some o ≡ false → o ≡ None
+none_of None h = refl
+none_of (Some x) h = absurd (let no : true ≡ false = h in cc)
+
+pub not_true : (b : Bool) → not b ≡ false → b ≡ true
+not_true true h = refl
+not_true false h = sym h
+
+pub not_false : (b : Bool) → not b ≡ true → b ≡ false
+not_false true h = sym h
+not_false false h = refl

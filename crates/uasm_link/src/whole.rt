@@ -1,6 +1,6 @@
 //! Links whole modules.
 
-ghost use Rattle.std.specs.Prelude.{◌≡◌, ◌⊎◌, ◌≤◌, List, None, Ok, Err, IfOk, IfErr, OnOk, IsTrue};
+ghost use Rattle.std.specs.Prelude.{◌≡◌, ◌⊎◌, ◌≤◌, List, None, Ok, Err, IfOk, IfErr, OnOk, IsTrue, unwrap_or};
 ghost use Rattle.std.specs.List.{list_all};
 ghost use Rattle.cap_words.specs.declared.word.Quad.{Quad as Cell};
 ghost use Rattle.cap_words.specs.Words.{W};
@@ -8,6 +8,7 @@ ghost use Rattle.uasm_read.specs.Modules.{is_module};
 ghost use Rattle.uasm_read.specs.Links as spec;
 ghost use Rattle.uasm_link.specs.declared.error.LinkError.TheVariants as error;
 ghost use Rattle.uasm_link.specs.Answers.{IsFault};
+ghost use Rattle.uasm_link.specs.Numbering.{number_in, rom_of};
 
 use crate::cells::cells_of;
 use crate::error::LinkError;
@@ -16,6 +17,7 @@ use crate::numbers::{count_items, exports_of};
 use cap_words::{Name, Word};
 use quad_memory::Image;
 use std::alloc::{AllocError, Global};
+use std::collections::HashMap;
 use uasm_read::Module;
 
 fn name_copied(alloc: Global, name: &Name) -> Result<Name, AllocError>
@@ -27,6 +29,7 @@ fn name_copied(alloc: Global, name: &Name) -> Result<Name, AllocError>
 // Whether the modules can be linked.
 fn check(alloc: Global, modules: &[Module]) -> Result<(), LinkError>
     ensures sound { OnOk result (spec.link_fault modules.now ≡ None) }
+    ensures kept { OnOk result (IsTrue (list_all is_module modules.now)) }
     ensures fault { IfErr result (IsFault (spec.link_fault modules.now)) }
 {
     let exports = names_of(alloc, Side::Exports, modules)?;
@@ -48,6 +51,14 @@ fn check(alloc: Global, modules: &[Module]) -> Result<(), LinkError>
     Ok(())
 }
 
+// The word of the export `boot`.
+fn boot_word(exports: &HashMap<&[u8], u32>) -> Word
+    ensures { result ≡ rom_of (unwrap_or (number_in exports.now spec.boot_name) 0) }
+{
+    let number = exports.get(b"boot".as_slice()).copied().unwrap_or(0);
+    Word::rom_bits(number).unwrap_or(Word::UNDEF)
+}
+
 /// The image of modules: their items one after the other, from ROM number 16 on. `Following` is the number of the next item, and a name
 /// is the number of this module's label, or of the label that a module exports under it. Boot begins at the export `boot`.
 ///
@@ -63,8 +74,7 @@ pub fn link(alloc: Global, modules: &[Module]) -> Result<Image, LinkError>
 {
     check(alloc, modules)?;
     let exports = exports_of(alloc, modules)?;
-    let boot = exports.get(b"boot".as_slice()).copied().unwrap_or(0);
-    let boot = Word::rom_bits(boot).unwrap_or(Word::UNDEF);
+    let boot = boot_word(&exports);
     let cells = cells_of(alloc, modules, &exports)?;
     Ok(Image::new(boot, cells).unwrap())
 }

@@ -1,5 +1,18 @@
-use Rattle.std.proofs.Common.{rules}
+use Rattle.std.proofs.Common.{◌≡◌, ℕ, suc, ◌+◌, ◌-◌, ◌<◌, ◌≤◌, Bool, true, false, List, [], ◌∷◌, ◌++◌, map, length, min, Option, Some, None, Ok, refl, sym, ap, ◌∙◌, subst, arith, rules, inl, append_assoc, append-nil}
+use Rattle.std.specs.Prelude.{not, cond, is_some, if◌then◌else◌, option_map, unwrap_or}
+use Rattle.std.specs.Option.{option_or}
+use Rattle.std.specs.Str.{bytes_eq}
+use Rattle.uasm_read.specs.Texts.{Name, has_name}
+use Rattle.uasm_read.proofs.Fronts.{behind, front_item, no_item, length-behind}
+use Rattle.uasm_read.specs.Reading.{holds}
+use Rattle.std.specs.Prelude.{◌||◌}
+use Rattle.uasm_link.proofs.Twice.{set_on}
 use Rattle.uasm_link.proofs.names.set_of.Goals as goal
 
 pub loop-rest-preserved : goal.loop-rest-preserved
-loop-rest-preserved c = ?
+loop-rest-preserved c = λ name.
+    let rest = c.loop-rest.rest.now in
+    let split = front_item rest c.name-item.result c.in-len1-up.len_at_least c.name-item.is in
+    set_on (holds c.loop-rest.set) (holds c.insert.new.self) c.name-item.result.now (map (λ name. name.now) (behind rest))
+      (λ other. subst (λ n. holds c.insert.new.self other ≡ cond (bytes_eq n other) true (holds c.loop-rest.set other)) c.bytes.ensures.value (c.in_ok-insert.ensures.updates.0 (record { ref_ptr = (0, 0); now = other }))) name
+    ∙ ap (λ r. (holds c.loop-rest.set name || has_name (map (λ name. name.now) r) name)) (sym split) ∙ c.loop-rest.invariant name

@@ -1,8 +1,30 @@
-use Rattle.std.proofs.Common.{rules}
+use Rattle.std.proofs.Common.{◌≡◌, ℕ, suc, ◌+◌, ◌-◌, ◌<◌, ◌≤◌, Bool, true, false, List, [], ◌∷◌, ◌++◌, map, length, min, Option, Some, None, Ok, refl, sym, ap, ◌∙◌, subst, arith, rules, inl, append_assoc, append-nil}
+use Rattle.std.specs.Prelude.{not, cond, is_some, if◌then◌else◌, option_map, unwrap_or}
+use Rattle.std.specs.Option.{option_or}
+use Rattle.std.specs.Str.{bytes_eq}
+use Rattle.uasm_read.specs.Texts.{Name, has_name}
+use Rattle.uasm_read.proofs.Fronts.{behind, front_item, no_item, length-behind}
+use Rattle.uasm_link.proofs.Steps.{was_put, step_or, step_if, step_some, export_found, label_front, export_front, count_front, no_label, no_export, no_count}
+use Rattle.std.specs.List.{list_all}
+use Rattle.uasm_read.specs.Modules.{is_module}
+use Rattle.uasm_read.specs.Links.{count_of_items}
+use Rattle.std.proofs.lemmas.Bool.{and_from}
 use Rattle.uasm_link.proofs.numbers.count_items.Goals as goal
 
 pub loop-rest-preserved : goal.loop-rest-preserved
-loop-rest-preserved c = ?
+loop-rest-preserved c =
+    let rest = c.loop-rest.rest.now in
+    let m = c.part-item.result in
+    let split = front_item rest m c.in-len1-up.len_at_least c.part-item.is in
+    let counted = count_front rest m (behind rest) split in
+    let same = ap length c.items.ensures.value in
+    record {
+      counted = omega (arith, counted, same, c.min-count.ensures, c.min.ensures, c.loop-rest.invariant.counted, c.loop-rest.invariant.few);
+      few = omega (arith, c.min-count.ensures);
+      kept = λ more. c.loop-rest.invariant.kept (subst (λ r. list_all is_module r ≡ true) (sym split) (and_from (is_module m) _ c.items.ensures.is_module more));
+    }
 
 pub returns-clause-count : goal.returns-clause-count
-returns-clause-count c = ?
+returns-clause-count c =
+    let none = ap count_of_items (no_item c.loop-rest.rest.now c.in_default.len_below) ∙ no_count in
+    omega (arith, none, c.loop-rest.invariant.counted, c.loop-rest.invariant.few)
