@@ -10,3 +10,6 @@ mod whole;
 
 pub use error::LinkError;
 pub use whole::link;
+
+#[cfg(test)]
+mod tests;

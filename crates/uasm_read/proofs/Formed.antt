@@ -56,7 +56,7 @@ position_below : (t : Bytes → Bool) (i : ℕ) (list : List Bytes) → all_in (
 position_below t i [] = refl
 position_below t i (x ∷ list) =
     let further : all_in (λ k. nat_lt k (i + length (x ∷ list))) (position_from t (i + 1) list) ≡ true =
-      subst (λ n. all_in (λ k. nat_lt k n) (position_from t (i + 1) list) ≡ true) (let e : i + 1 + length list ≡ i + suc (length list) = omega arith in e) (position_below t (i + 1) list) in
+    subst (λ n. all_in (λ k. nat_lt k n) (position_from t (i + 1) list) ≡ true) (let e : i + 1 + length list ≡ i + suc (length list) = omega arith in e) (position_below t (i + 1) list) in
     let here : nat_lt i (i + suc (length list)) ≡ true = search (rules, tests) in
     all_in-either (t x) (λ k. nat_lt k (i + length (x ∷ list))) i (position_from t (i + 1) list) here further
 

@@ -88,6 +88,7 @@ instruction_cell operation word None after fit named goes = by_next (goes_on ope
   where
     words : is_word (operand.Const 9) && is_word (operand.Fix (pos (row_of operation).number)) && is_word word ≡ true
     words = and_from (is_word (operand.Const 9) && is_word (operand.Fix (pos (row_of operation).number))) _ (and_from (is_word (operand.Const 9)) _ refl (number_word operation)) (operand_word operation word fit)
+
     by_next : (b : Bool) → goes_on operation ≡ b → is_cell (operand.Const 9 ∷ operand.Fix (pos (row_of operation).number) ∷ word ∷ (if b then operand.Following else operand.Const 0) ∷ []) after ≡ true
     by_next true on = rw (number_word operation, number_found operation, on) (and_from (fits (row_of operation).operand word) _ fit (goes refl on))
     by_next false on = and_from (is_word (operand.Const 9) && is_word (operand.Fix (pos (row_of operation).number)) && is_word word) _ words refl
@@ -117,7 +118,7 @@ items_are labels before (Instruction operation word ∷ lines) formed falls =
     let stays : (goes_on operation && (not (is_some (next_named lines)) && not (instruction_follows lines))) ≡ false = not_refused _ cause.FallsOff none.0 in
     and_from (is_cell (operand.Const 9 ∷ operand.Fix (pos (row_of operation).number) ∷ word ∷ next_word operation (next_named lines) ∷ []) (items_of [] lines)) _
     (instruction_cell operation word (next_named lines) (items_of [] lines) parts.0 (next_formed lines parts.1)
-      (λ unnamed on. begins [] lines ∙ goes_by (goes_on operation) (is_some (next_named lines)) (instruction_follows lines) stays (ap is_some unnamed) on))
+    (λ unnamed on. begins [] lines ∙ goes_by (goes_on operation) (is_some (next_named lines)) (instruction_follows lines) stays (ap is_some unnamed) on))
     (items_are [] (Instruction operation word ∷ before) lines parts.1 none.1)
 items_are labels before (Next name ∷ lines) formed falls = items_are labels (Next name ∷ before) lines (and_parts (is_formed (Next name)) _ formed).1 (first_none falls_off before (Next name) lines falls).1
 items_are labels before (Cell t x y z ∷ lines) formed falls =
@@ -245,14 +246,14 @@ items_known p labels (Label name ∷ lines) h = items_known p (labels ++ name �
 items_known p labels (Instruction operation word ∷ lines) h =
     let parts = parted p (names_in word) (flat_map used_by lines) h in
     both p (names_in word ++ (names_in (next_word operation (next_named lines)) ++ [])) _
-      (both p (names_in word) _ parts.0 (both p (names_in (next_word operation (next_named lines))) [] (next_word_known p operation (next_named lines) (next_known p lines parts.1)) refl))
-      (items_known p [] lines parts.1)
+    (both p (names_in word) _ parts.0 (both p (names_in (next_word operation (next_named lines))) [] (next_word_known p operation (next_named lines) (next_known p lines parts.1)) refl))
+    (items_known p [] lines parts.1)
 items_known p labels (Next name ∷ lines) h = items_known p labels lines (parted p (used_by (Next name)) (flat_map used_by lines) h).1
 items_known p labels (Cell t x y z ∷ lines) h =
     let parts = parted p (used_by (Cell t x y z)) (flat_map used_by lines) h in
     both p (names_in t ++ (names_in x ++ (names_in y ++ (names_in z ++ [])))) _
-      (subst (λ names. list_all p (names_in t ++ (names_in x ++ (names_in y ++ names))) ≡ true) (sym (append-nil (names_in z))) parts.0)
-      (items_known p [] lines parts.1)
+    (subst (λ names. list_all p (names_in t ++ (names_in x ++ (names_in y ++ names))) ≡ true) (sym (append-nil (names_in z))) parts.0)
+    (items_known p [] lines parts.1)
 items_known p labels (Bad why ∷ lines) h = items_known p labels lines h
 
 -- ---- names that differ
@@ -371,11 +372,11 @@ lines_sound lines formed sound =
     let a = apart_of [] lines line.0 in
     let known : list_all (has_name (defined_in lines)) (used_in (items_of [] lines)) ≡ true = items_known (has_name (defined_in lines)) [] lines (lines_known lines [] lines name.0) in
     subst (λ ls. (list_all is_name (imports_of lines) && list_all is_name ls && are_different (imports_of lines) && are_different ls && are_apart (imports_of lines) ls
-        && list_all (has_name ls) (exports_of lines) && list_all (has_name (ls ++ imports_of lines)) (used_in (items_of [] lines)) && are_items (items_of [] lines)) ≡ true)
-      (sym same)
-      (eight _ _ _ _ _ _ _ _ names.0 names.1 a.imports a.labels a.apart (exports_known lines [] lines name.0)
-        (all_alike (has_name (defined_in lines)) (has_name (labels_of lines ++ imports_of lines)) (defined_same lines) (used_in (items_of [] lines)) known)
-        (items_are [] [] lines formed name.1))
+    && list_all (has_name ls) (exports_of lines) && list_all (has_name (ls ++ imports_of lines)) (used_in (items_of [] lines)) && are_items (items_of [] lines)) ≡ true)
+    (sym same)
+    (eight _ _ _ _ _ _ _ _ names.0 names.1 a.imports a.labels a.apart (exports_known lines [] lines name.0)
+    (all_alike (has_name (defined_in lines)) (has_name (labels_of lines ++ imports_of lines)) (defined_same lines) (used_in (items_of [] lines)) known)
+    (items_are [] [] lines formed name.1))
 
 pub module_sound : (texts : List Bytes) → refusal (map line_of texts) ≡ None → is_module (module_of (map line_of texts)) ≡ true
 module_sound texts sound = lines_sound (map line_of texts) (lines_formed texts) sound

@@ -37,11 +37,7 @@ fn name_in(which: Which, line: &Line) -> Option<&[u8]>
 }
 
 // Adds the name of a line to the names that stand before.
-fn note<'a>(
-    which: Which,
-    names: &mut HashSet<&'a [u8]>,
-    line: &'a Line,
-) -> Result<(), AllocError>
+fn note<'a>(which: Which, names: &mut HashSet<&'a [u8]>, line: &'a Line) -> Result<(), AllocError>
     ensures { OnOk result ((name : NameBytes) → holds names.new name ≡ (has_name (names_by which line.now) name || holds names.old name)) }
 {
     if let Some(name) = name_in(which, line) {

@@ -19,3 +19,6 @@ pub use item::{Item, Items, Names};
 pub use module::Module;
 pub use operand::Operand;
 pub use read::read_module;
+
+#[cfg(test)]
+mod tests;

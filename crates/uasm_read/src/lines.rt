@@ -49,12 +49,7 @@ fn label_line(name: Name, text: &[u8]) -> Line
     Line::Label(name)
 }
 
-fn cell_of(
-    t: Option<Operand>,
-    x: Option<Operand>,
-    y: Option<Operand>,
-    z: Option<Operand>,
-) -> Line
+fn cell_of(t: Option<Operand>, x: Option<Operand>, y: Option<Operand>, z: Option<Operand>) -> Line
     ensures { result ≡ spec.cell_of t x y z }
 {
     match (t, x, y, z) {

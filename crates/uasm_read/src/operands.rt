@@ -11,7 +11,8 @@ use crate::operation::Operation;
 use crate::texts::{fixnum_of, name_of, next_part, place_of};
 use std::alloc::{AllocError, Global};
 
-const CONSTANTS: &[u8] = b"#? #nil #f #t #type_t #fixnum_t #actor_t #sponsor_t #event_t #instr_t #pair_t #dict_t #deque_t #symbol_t #func_t #block_t";
+const CONSTANTS: &[u8] =
+    b"#? #nil #f #t #type_t #fixnum_t #actor_t #sponsor_t #event_t #instr_t #pair_t #dict_t #deque_t #symbol_t #func_t #block_t";
 
 /// The fixnum, the constant or the name that a part is.
 #[tactic(auto, unfolding(crate::specs::Operations::value_of))]
@@ -72,7 +73,8 @@ fn operand_in(
     ensures { IfOk result (λ operand. operand ≡ spec.operand_in (spec.row_of operation).operand part.now) }
 {
     match operation {
-        Operation::Push | Operation::Typeq | Operation::Eq | Operation::If | Operation::Assert => value_of(alloc, part),
+        Operation::Push | Operation::Typeq | Operation::Eq | Operation::If | Operation::Assert =>
+            value_of(alloc, part),
         Operation::Dup => Ok(number_within(part, 0, 15)),
         Operation::Drop => Ok(number_within(part, 0, 4095)),
         Operation::Pick => Ok(number_within(part, 1, 4095)),

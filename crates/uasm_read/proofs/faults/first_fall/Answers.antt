@@ -11,7 +11,7 @@ returns-in-Some c =
     let rest = c.loop-rest.rest.now in
     let line = c.line-item.result in
     let s : Searched spec.falls_off c.args.lines.now (line ∷ behind rest) c.loop-rest.at =
-      subst (λ r. Searched spec.falls_off c.args.lines.now r c.loop-rest.at) (front_item rest line c.in-len1-up.len_at_least c.line-item.is) c.loop-rest.invariant.searched in
+    subst (λ r. Searched spec.falls_off c.args.lines.now r c.loop-rest.at) (front_item rest line c.in-len1-up.len_at_least c.line-item.is) c.loop-rest.invariant.searched in
     let here : spec.falls_off s.before line (behind rest) ≡ Some c.in-Some.cause = sym c.falls_by.ensures ∙ c.in-Some.is in
     sym (refused_here spec.falls_off c.args.lines.now line (behind rest) c.loop-rest.at c.in-Some.cause s here)
 
@@ -20,7 +20,7 @@ loop-rest-preserved c =
     let rest = c.loop-rest.rest.now in
     let line = c.line-item.result in
     let s : Searched spec.falls_off c.args.lines.now (line ∷ behind rest) c.loop-rest.at =
-      subst (λ r. Searched spec.falls_off c.args.lines.now r c.loop-rest.at) (front_item rest line c.in-len1-up.len_at_least c.line-item.is) c.loop-rest.invariant.searched in
+    subst (λ r. Searched spec.falls_off c.args.lines.now r c.loop-rest.at) (front_item rest line c.in-len1-up.len_at_least c.line-item.is) c.loop-rest.invariant.searched in
     let here : spec.falls_off s.before line (behind rest) ≡ None = sym c.falls_by.ensures ∙ c.in_default-falls_by.is in
     record {
       searched = went_on spec.falls_off c.args.lines.now line (behind rest) c.loop-rest.at s here;

@@ -14,10 +14,10 @@ returns-in-Some c =
     let line = c.line-item.result in
     let test = spec.name_unknown c.args.lines.now in
     let s : Searched test c.args.lines.now (line ∷ behind rest) c.loop-rest.at =
-      subst (λ r. Searched test c.args.lines.now r c.loop-rest.at) (front_item rest line c.in-len1-up.len_at_least c.line-item.is) c.loop-rest.invariant.searched in
+    subst (λ r. Searched test c.args.lines.now r c.loop-rest.at) (front_item rest line c.in-len1-up.len_at_least c.line-item.is) c.loop-rest.invariant.searched in
     let here : test s.before line (behind rest) ≡ Some c.in-Some.cause =
-      unknown_same (has_name (labels_of c.args.lines.now)) (has_name (defined_in c.args.lines.now)) (holds c.in_ok-labels.labels) (holds c.in_ok-names.names)
-        (λ name. sym (c.in_ok-labels.ensures name)) (λ name. sym (c.in_ok-names.ensures name)) line ∙ sym c.unknown_by.ensures ∙ c.in-Some.is in
+    unknown_same (has_name (labels_of c.args.lines.now)) (has_name (defined_in c.args.lines.now)) (holds c.in_ok-labels.labels) (holds c.in_ok-names.names)
+    (λ name. sym (c.in_ok-labels.ensures name)) (λ name. sym (c.in_ok-names.ensures name)) line ∙ sym c.unknown_by.ensures ∙ c.in-Some.is in
     sym (refused_here test c.args.lines.now line (behind rest) c.loop-rest.at c.in-Some.cause s here)
 
 pub loop-rest-preserved : goal.loop-rest-preserved
@@ -27,10 +27,10 @@ loop-rest-preserved c =
     let line = c.line-item.result in
     let test = spec.name_unknown c.args.lines.now in
     let s : Searched test c.args.lines.now (line ∷ behind rest) c.loop-rest.at =
-      subst (λ r. Searched test c.args.lines.now r c.loop-rest.at) (front_item rest line c.in-len1-up.len_at_least c.line-item.is) c.loop-rest.invariant.searched in
+    subst (λ r. Searched test c.args.lines.now r c.loop-rest.at) (front_item rest line c.in-len1-up.len_at_least c.line-item.is) c.loop-rest.invariant.searched in
     let here : test s.before line (behind rest) ≡ None =
-      unknown_same (has_name (labels_of c.args.lines.now)) (has_name (defined_in c.args.lines.now)) (holds c.in_ok-labels.labels) (holds c.in_ok-names.names)
-        (λ name. sym (c.in_ok-labels.ensures name)) (λ name. sym (c.in_ok-names.ensures name)) line ∙ sym c.unknown_by.ensures ∙ c.in_default-unknown_by.is in
+    unknown_same (has_name (labels_of c.args.lines.now)) (has_name (defined_in c.args.lines.now)) (holds c.in_ok-labels.labels) (holds c.in_ok-names.names)
+    (λ name. sym (c.in_ok-labels.ensures name)) (λ name. sym (c.in_ok-names.ensures name)) line ∙ sym c.unknown_by.ensures ∙ c.in_default-unknown_by.is in
     record {
       searched = went_on test c.args.lines.now line (behind rest) c.loop-rest.at s here;
       within = omega (arith, length-behind rest c.in-len1-up.len_at_least, c.loop-rest.invariant.within);

@@ -5,7 +5,6 @@ use Rattle.uasm_read.specs.Reading.{holds}
 use Rattle.uasm_read.proofs.Searches.{Searched, Checked, begun, ended, refused_here, went_on, checked_test, checked_on, checked_begun, unknown_same}
 use Rattle.uasm_read.proofs.Fronts.{behind, front_item, no_item, length-behind}
 use Rattle.uasm_read.proofs.faults.note.Goals as goal
-
 use Rattle.std.specs.Prelude.{◌||◌, cond}
 use Rattle.std.specs.Str.{bytes_eq}
 use Rattle.std.proofs.lemmas.Cmp.{nat_list_eq_equiv}

@@ -16,6 +16,6 @@ loop-lines-preserved c =
     let shorter = rw c.in-Some.is at c.cut_line.ensures.shorter in
     record {
       same = rw (c.in_ok-push-in-Some.ensures.items, c.in_ok-line_of-in-Some.ensures, c.without_return.ensures, append_assoc)
-        (ap (λ lines. c.loop-lines.lines.items ++ map line_in_text lines) (sym more) ∙ c.loop-lines.invariant.same);
+          (ap (λ lines. c.loop-lines.lines.items ++ map line_in_text lines) (sym more) ∙ c.loop-lines.invariant.same);
       few = omega (arith, shorter, c.loop-lines.invariant.few, c.in_ok-push-in-Some.ensures.len);
     }
