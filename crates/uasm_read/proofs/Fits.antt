@@ -1,8 +1,7 @@
 -- Operations are found again by their numbers, and their operands are words.
-use Rattle.std.proofs.Common.{◌≡◌, ℕ, suc, ◌+◌, ◌-◌, ◌<◌, ◌≤◌, Bool, true, false, List, [], ◌∷◌, length, Option, Some, None, refl, sym, ap, ◌∙◌, arith, rules, pos, negsuc, ℤ}
+use Rattle.std.proofs.Common.{◌≡◌, ℕ, suc, ◌-◌, Bool, true, false, length, Some, refl, rules, pos, negsuc, ℤ}
 use Rattle.std.specs.Prelude.{◌&&◌, nat_lt, nat_le, ◌+ℤ◌, int_le}
-use Rattle.std.proofs.lemmas.Bool.{and_parts, and_from}
-use Rattle.std.proofs.lemmas.Int.{ints}
+use Rattle.std.proofs.lemmas.Bool.{and_parts}
 use borrow.Author.Tests.{tests}
 use Rattle.cap_words.specs.Fixnums.{in_range}
 use Rattle.instr_table.specs.Code.{within, turns}

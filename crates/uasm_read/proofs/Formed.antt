@@ -1,5 +1,5 @@
 -- What a line says has its form: names are names, words are words, and operands are those of their operations.
-use Rattle.std.proofs.Common.{◌≡◌, ℕ, suc, ◌+◌, ◌-◌, ◌<◌, Bool, true, false, List, [], ◌∷◌, length, map, Option, Some, None, refl, sym, ap, ◌∙◌, subst, arith, rules, pos, negsuc, ℤ}
+use Rattle.std.proofs.Common.{◌≡◌, ℕ, suc, ◌+◌, ◌-◌, ◌<◌, Bool, true, false, List, [], ◌∷◌, length, map, Option, Some, None, refl, subst, arith, rules, pos, ℤ}
 use Rattle.std.specs.Prelude.{◌&&◌, nat_lt, if◌then◌else◌, option_map, ◌+ℤ◌, int_le, ◌==◌}
 use Rattle.std.specs.List.{list_all, position_from, before_first}
 use Rattle.std.specs.Option.{option_or}

@@ -1,18 +1,14 @@
 -- Worked rows of the definitions.
-use Rattle.std.proofs.Common.{◌≡◌, List, [], ◌∷◌, Ok, Err, None, Some, refl, pos, negsuc, ◌++◌}
-use Rattle.std.specs.Prelude.{codes, map, Result}
+use Rattle.std.proofs.Common.{◌≡◌, [], ◌∷◌, Ok, Err, Some, refl, pos, negsuc}
+use Rattle.std.specs.Prelude.{codes, Result}
 use Rattle.uasm_read.specs.declared.error.UasmCause.{UasmCause}
 use Rattle.uasm_read.specs.declared.error.UasmCause.TheVariants as cause
 use Rattle.uasm_read.specs.declared.error.UasmRefused.{UasmRefused}
-use Rattle.uasm_read.specs.declared.operand.Operand.{Operand}
-use Rattle.uasm_read.specs.declared.operand.Operand.TheVariants.{Fix, Const, Label, Following}
-use Rattle.uasm_read.specs.declared.item.Item.{Item}
-use Rattle.uasm_read.specs.Texts.{Bytes, lines_of}
-use Rattle.uasm_read.specs.Lines.{line_in, line_of}
-use Rattle.uasm_read.specs.Faults.{labels_of, imports_of, exports_of, defined_in, first, follows_instruction, next_named, instruction_follows, refusal}
+use Rattle.uasm_read.specs.declared.operand.Operand.TheVariants.{Fix, Const, Label}
+use Rattle.uasm_read.specs.Texts.{Bytes}
 use Rattle.uasm_read.specs.Modules.{ModuleParts}
 use Rattle.uasm_read.proofs.Computing.{assembling}
-use Rattle.uasm_read.specs.Assembles.{assembled, item, items_of, module_of}
+use Rattle.uasm_read.specs.Assembles.{assembled, item}
 
 abbrev refused : Bytes → Result ModuleParts UasmRefused → Type 0
 refused text r = assembled (Some 1048576) text ≡ r

@@ -4,7 +4,7 @@ use Rattle.std.specs.Prelude.{◌&&◌, ◌||◌, not, if◌then◌else◌, is_s
 use Rattle.std.specs.List.{list_all, list_any, flat_map}
 use Rattle.std.specs.Option.{option_or}
 use Rattle.std.specs.Str.{bytes_eq}
-use Rattle.std.proofs.lemmas.Bool.{and_parts, and_from, cases_Bool}
+use Rattle.std.proofs.lemmas.Bool.{and_parts, and_from}
 use Rattle.std.proofs.lemmas.List.Folds.{list_any-append, list_all-append}
 use Rattle.std.proofs.lemmas.Cmp.{nat_list_eq_equiv}
 use Rattle.uasm_read.specs.declared.error.UasmCause.{UasmCause}
@@ -19,8 +19,8 @@ use Rattle.uasm_read.specs.declared.line.Line.TheVariants.{Blank, Import, Export
 use Rattle.uasm_read.specs.Texts.{Bytes, Name, is_name, has_name}
 use Rattle.uasm_read.specs.Operations.{row_of, goes_on}
 use Rattle.uasm_read.specs.Lines.{line_of}
-use Rattle.uasm_read.specs.Faults.{defined_by, labels_of, imports_of, exports_of, defined_in, used_by, refused_or, first, fault_if, is_no_end, follows_instruction, line_fault, name_unknown, next_named, instruction_follows, falls_off, refusal}
-use Rattle.uasm_read.specs.Modules.{is_word, names_in, fits, numbered, may_go_on, begins_with_instruction, is_cell, are_items, labels_in, used_in, are_different, are_apart, is_module}
+use Rattle.uasm_read.specs.Faults.{labels_of, imports_of, exports_of, defined_in, used_by, refused_or, first, fault_if, is_no_end, line_fault, name_unknown, next_named, instruction_follows, falls_off, refusal}
+use Rattle.uasm_read.specs.Modules.{is_word, names_in, fits, begins_with_instruction, is_cell, are_items, labels_in, used_in, are_different, are_apart, is_module}
 use Rattle.uasm_read.specs.Assembles.{next_word, items_of, module_of}
 use Rattle.uasm_read.proofs.Searches.{Test}
 use Rattle.uasm_read.proofs.Formed.{all_in, is_formed, lines_formed}

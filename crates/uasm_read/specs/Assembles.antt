@@ -7,7 +7,7 @@ use Rattle.uasm_read.specs.declared.operand.Operand.TheVariants.{Fix, Const, Lab
 use Rattle.uasm_read.specs.declared.operation.Operation.{Operation}
 use Rattle.uasm_read.specs.declared.item.Item.{Item}
 use Rattle.uasm_read.specs.declared.line.Line.{Line}
-use Rattle.uasm_read.specs.declared.line.Line.TheVariants.{Blank, Import, Export, Label, Instruction, Next, Cell, Bad}
+use Rattle.uasm_read.specs.declared.line.Line.TheVariants.{Label, Instruction, Cell}
 use Rattle.uasm_read.specs.Texts.{Bytes, Name, lines_of}
 use Rattle.uasm_read.specs.Operations.{row_of, goes_on}
 use Rattle.uasm_read.specs.Modules.{ModuleParts}

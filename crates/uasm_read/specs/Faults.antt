@@ -1,11 +1,10 @@
 -- Why lines are refused.
-use Rattle.std.specs.Prelude.{ℕ, ◌+◌, Bool, true, false, not, ◌&&◌, ◌||◌, if◌then◌else◌, ◌==◌, nat_eq, List, [], ◌∷◌, ◌++◌, length, Option, Some, None, is_some}
+use Rattle.std.specs.Prelude.{ℕ, ◌+◌, Bool, true, false, not, ◌&&◌, if◌then◌else◌, List, [], ◌∷◌, ◌++◌, length, Option, Some, None, is_some}
 use Rattle.std.specs.List.{list_all, list_any, flat_map}
 use Rattle.std.specs.Option.{option_or}
 use Rattle.uasm_read.specs.declared.error.UasmCause.{UasmCause}
 use Rattle.uasm_read.specs.declared.error.UasmCause.TheVariants as cause
 use Rattle.uasm_read.specs.declared.error.UasmRefused.{UasmRefused}
-use Rattle.uasm_read.specs.declared.operand.Operand.{Operand}
 use Rattle.uasm_read.specs.declared.line.Line.{Line}
 use Rattle.uasm_read.specs.declared.line.Line.TheVariants.{Blank, Import, Export, Label, Instruction, Next, Cell, Bad}
 use Rattle.uasm_read.specs.Texts.{Name, has_name}

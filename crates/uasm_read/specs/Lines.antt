@@ -1,15 +1,14 @@
 -- What a line says by itself.
-use Rattle.std.specs.Prelude.{ℕ, Bool, ◌&&◌, if◌then◌else◌, ◌==◌, List, [], ◌∷◌, map, Option, Some, None, codes}
+use Rattle.std.specs.Prelude.{◌&&◌, if◌then◌else◌, ◌==◌, List, [], ◌∷◌, Option, Some, None, codes}
 use Rattle.std.specs.List.{list_all, before_first}
 use Rattle.std.specs.Str.{bytes_eq}
-use Rattle.uasm_read.specs.declared.error.UasmCause.{UasmCause}
 use Rattle.uasm_read.specs.declared.error.UasmCause.TheVariants as cause
 use Rattle.uasm_read.specs.declared.operand.Operand.{Operand}
 use Rattle.uasm_read.specs.declared.operand.Operand.TheVariants.{Const}
 use Rattle.uasm_read.specs.declared.operation.Operation.{Operation}
 use Rattle.uasm_read.specs.declared.line.Line.{Line}
 use Rattle.uasm_read.specs.declared.line.Line.TheVariants.{Blank, Import, Export, Label, Instruction, Next, Cell, Bad}
-use Rattle.uasm_read.specs.Texts.{Bytes, Name, is_ascii, is_semicolon, last_byte, before_last_byte, lines_of, parts_of, is_name}
+use Rattle.uasm_read.specs.Texts.{Bytes, Name, is_ascii, is_semicolon, last_byte, before_last_byte, parts_of, is_name}
 use Rattle.uasm_read.specs.Operations.{row_of, operation_of, value_of, operand_of}
 
 -- the name that stands alone

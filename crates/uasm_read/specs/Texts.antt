@@ -1,7 +1,7 @@
 -- What a text is made of: lines, their parts, names and numbers.
-use Rattle.std.specs.Prelude.{ℕ, ◌+◌, ◌-◌, ◌*◌, ℤ, pos, neg_ℤ, Bool, not, ◌&&◌, ◌||◌, if◌then◌else◌, ◌==◌, false, nat_le, nat_lt, List, [], ◌∷◌, length, take, map, filter, slice_index, Option, Some, None, option_map, codes}
+use Rattle.std.specs.Prelude.{ℕ, ◌+◌, ◌-◌, ◌*◌, ℤ, pos, neg_ℤ, Bool, not, ◌&&◌, ◌||◌, if◌then◌else◌, ◌==◌, false, nat_le, nat_lt, List, [], ◌∷◌, length, take, filter, slice_index, Option, Some, None, codes}
 use Rattle.std.specs.Char.{is_ascii_digit}
-use Rattle.std.specs.List.{list_all, list_any, slice_split, position_from, before_first}
+use Rattle.std.specs.List.{list_all, list_any, slice_split, position_from}
 use Rattle.std.specs.Str.{bytes_eq}
 use Rattle.cap_words.specs.Fixnums.{in_range}
 

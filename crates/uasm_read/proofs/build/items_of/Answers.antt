@@ -1,4 +1,4 @@
-use Rattle.std.proofs.Common.{◌≡◌, ◌++◌, [], ap, sym, ◌∙◌, append-nil}
+use Rattle.std.proofs.Common.{◌++◌, ap, sym, ◌∙◌, append-nil}
 use Rattle.uasm_read.specs.Assembles.{items_of as items_in}
 use Rattle.uasm_read.proofs.Fronts.{no_item}
 use Rattle.uasm_read.proofs.build.items_of.Goals as goal

@@ -1,4 +1,4 @@
-use Rattle.std.proofs.Common.{◌≡◌, ◌≤◌, ◌+◌, length}
+use Rattle.std.proofs.Common.{◌≤◌, ◌+◌, length}
 use Rattle.uasm_read.specs.Faults.{falls_off}
 use Rattle.uasm_read.proofs.Searches.{Searched}
 use Rattle.uasm_read.proofs.faults.first_fall.Given as goal

@@ -1,4 +1,4 @@
-use Rattle.std.proofs.Common.{◌≡◌, ◌≤◌, ◌+◌, length}
+use Rattle.std.proofs.Common.{◌≤◌, ◌+◌, length}
 use Rattle.uasm_read.specs.Reading.{holds}
 use Rattle.uasm_read.proofs.Searches.{Checked}
 use Rattle.uasm_read.proofs.faults.first_line_fault.Given as goal

@@ -1,9 +1,6 @@
-use Rattle.std.proofs.Common.{◌≡◌, ℕ, ◌+◌, ◌-◌, Bool, true, false, List, [], ◌∷◌, ◌++◌, length, Option, Some, None, refl, sym, ap, ◌∙◌, subst, arith, rules}
-use Rattle.uasm_read.specs.Faults as spec
-use Rattle.uasm_read.specs.Texts.{Name, has_name}
+use Rattle.std.proofs.Common.{◌≡◌, Bool, true, false, refl, ap, ◌∙◌}
+use Rattle.uasm_read.specs.Texts.{has_name}
 use Rattle.uasm_read.specs.Reading.{holds}
-use Rattle.uasm_read.proofs.Searches.{Searched, Checked, begun, ended, refused_here, went_on, checked_test, checked_on, checked_begun, unknown_same}
-use Rattle.uasm_read.proofs.Fronts.{behind, front_item, no_item, length-behind}
 use Rattle.uasm_read.proofs.faults.note.Goals as goal
 use Rattle.std.specs.Prelude.{◌||◌, cond}
 use Rattle.std.specs.Str.{bytes_eq}

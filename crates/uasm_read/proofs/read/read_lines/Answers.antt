@@ -1,5 +1,4 @@
-use Rattle.std.proofs.Common.{◌≡◌, ◌++◌, ◌∷◌, [], ap, sym, ◌∙◌, arith, map, refl, append_assoc, Some, None}
-use Rattle.uasm_read.specs.Texts.{lines_of}
+use Rattle.std.proofs.Common.{◌++◌, ◌∷◌, [], ap, sym, ◌∙◌, arith, map, append_assoc}
 use Rattle.uasm_read.specs.Lines.{line_of as line_in_text}
 use Rattle.uasm_read.proofs.Parts.{lines_last, lines_more}
 use Rattle.uasm_read.proofs.read.read_lines.Goals as goal

@@ -1,4 +1,4 @@
-use Rattle.std.proofs.Common.{◌≡◌, ℕ, List, sym, ap, ◌∙◌, length, map, Ok, Err, Some, None, false, true, inl, rules, subst}
+use Rattle.std.proofs.Common.{◌≡◌, ℕ, List, sym, ap, ◌∙◌, length, map, Ok, Some, None, false, inl, rules}
 use Rattle.std.specs.Prelude.{nat_lt}
 use Rattle.std.proofs.lemmas.Bool.{cond-false}
 use borrow.Author.Tests.{tests}
@@ -6,8 +6,8 @@ use Rattle.uasm_read.specs.Texts.{lines_of}
 use Rattle.uasm_read.specs.declared.line.Line.{Line}
 use Rattle.uasm_read.specs.Lines.{line_of}
 use Rattle.uasm_read.specs.Faults.{refusal}
-use Rattle.uasm_read.specs.Modules.{ModuleParts, is_module}
-use Rattle.uasm_read.specs.Assembles.{assembled, assembled_lines, module_of, outcome, text_limit}
+use Rattle.uasm_read.specs.Modules.{ModuleParts}
+use Rattle.uasm_read.specs.Assembles.{assembled, module_of, outcome, text_limit}
 use Rattle.uasm_read.proofs.Sound.{module_sound}
 use Rattle.uasm_read.proofs.read.read_module.Goals as goal
 

@@ -1,6 +1,6 @@
-use Rattle.std.proofs.Common.{◌≡◌, ◌≢◌, ◌∙◌, ◌-◌, ◌+◌, ◌∷◌, suc, sym, ap, arith, length, take, drop, add-one}
+use Rattle.std.proofs.Common.{◌≡◌, ◌∙◌, ◌-◌, ◌+◌, sym, length, take, drop, add-one}
 use Rattle.std.proofs.lemmas.List.{take_rest}
-use Rattle.std.specs.List.{prefix_len, position_or_len, slice_split}
+use Rattle.std.specs.List.{position_or_len}
 use Rattle.uasm_read.specs.Texts.{is_line_feed}
 use Rattle.uasm_read.proofs.Parts.{split_whole, split_at}
 use Rattle.uasm_read.proofs.texts.cut_line.Goals as goal

@@ -1,6 +1,4 @@
-use Rattle.std.proofs.Common.{◌≡◌, true, refl, rules, ap, sym, ◌∙◌, None, Some}
-use Rattle.std.proofs.lemmas.Bool.{cond-true}
-use Rattle.std.specs.Prelude.{if◌then◌else◌}
+use Rattle.std.proofs.Common.{◌≡◌, true, refl, rules}
 use borrow.Author.Tests.{tests}
 use Rattle.cap_words.specs.Text as words
 use Rattle.uasm_read.specs.Texts.{is_name}
