@@ -119,9 +119,9 @@ module _ (count : ℕ) (words : Name → W) (named : (name : Name) → is_rom_wo
   cell_rom at cell after few h = no_cell cell after h (λ t x y z same w.
       subst (λ ws. is_rom_quad count (linked_cell words at ws) ≡ true) (sym same)
       (and_from (is_rom_word count (linked_word words at t) && is_rom_word count (linked_word words at x) && is_rom_word count (linked_word words at y)) _
-        (and_from (is_rom_word count (linked_word words at t) && is_rom_word count (linked_word words at x)) _
-          (and_from (is_rom_word count (linked_word words at t)) _ (word_rom at t w.t_word) (word_rom at x w.x_word)) (word_rom at y w.y_word))
-        (last_rom at z after few w.z_word)))
+      (and_from (is_rom_word count (linked_word words at t) && is_rom_word count (linked_word words at x)) _
+      (and_from (is_rom_word count (linked_word words at t)) _ (word_rom at t w.t_word) (word_rom at x w.x_word)) (word_rom at y w.y_word))
+      (last_rom at z after few w.z_word)))
 
   cells_rom : (at : ℕ) (items : List Item) → at + length items ≤ 16 + count → are_items items ≡ true → list_all (is_rom_quad count) (linked_cells words at items) ≡ true
   unfolding linked_cells
@@ -148,8 +148,8 @@ modules_rom all at (m ∷ modules) few kept =
     let parts = and_parts (is_module m) _ kept in
     list_all-append (is_rom_quad (count_of_items all)) (linked_cells (name_word all at m) at m.items) (linked_modules all (at + length m.items) modules)
     ∙ and_from (list_all (is_rom_quad (count_of_items all)) (linked_cells (name_word all at m) at m.items)) _
-      (cells_rom (count_of_items all) (name_word all at m) (named_rom all at m (omega (arith, few))) at m.items (omega (arith, few)) (module_kept m parts.0).items)
-      (modules_rom all (at + length m.items) modules (omega (arith, few)) parts.1)
+    (cells_rom (count_of_items all) (name_word all at m) (named_rom all at m (omega (arith, few))) at m.items (omega (arith, few)) (module_kept m parts.0).items)
+    (modules_rom all (at + length m.items) modules (omega (arith, few)) parts.1)
 
 length-linked_cells : (words : Name → W) (at : ℕ) (items : List Item) → length (linked_cells words at items) ≡ length items
 unfolding linked_cells
@@ -176,7 +176,7 @@ exported_number at [] name kept h = absurd (let no : false ≡ true = h in cc)
 exported_number at (m ∷ modules) name kept h =
     let parts = and_parts (is_module m) _ kept in
     found_if (has_name m.exports name) (has_name (exports_of_all modules) name) (label_number at m.items name) (export_number (at + length m.items) modules name)
-      (sym (list_any-append (bytes_eq name) m.exports (exports_of_all modules)) ∙ h) (export_found at m name parts.0) (exported_number (at + length m.items) modules name parts.1)
+    (sym (list_any-append (bytes_eq name) m.exports (exports_of_all modules)) ∙ h) (export_found at m name parts.0) (exported_number (at + length m.items) modules name parts.1)
 
 boot_rom : (count : ℕ) (o : Option ℕ) → Bounded 16 (16 + count) o → is_some o ≡ true → (is_boot_word count (Rom (unwrap_or o 0)) ≡ true) × (1 ≤ count)
 boot_rom count None b some = absurd (let no : false ≡ true = some in cc)
@@ -228,8 +228,8 @@ image_sound modules kept sound =
     let some = b.1 in
     let counted : is_cell_count (count_of_items modules) ≡ true = and_from (nat_le 1 (count_of_items modules)) _ (search (rules, tests)) (search (rules, tests)) in
     subst (λ n. (is_cell_count n && is_boot_word n (linked_boot modules) && list_all (is_rom_quad n) (linked_modules modules first_number modules)) ≡ true) (sym (length-linked_modules modules first_number modules))
-      (and_from (is_cell_count (count_of_items modules) && is_boot_word (count_of_items modules) (linked_boot modules)) _
-        (and_from (is_cell_count (count_of_items modules)) _ counted b.0) (modules_rom modules first_number modules (omega arith) kept))
+    (and_from (is_cell_count (count_of_items modules) && is_boot_word (count_of_items modules) (linked_boot modules)) _
+    (and_from (is_cell_count (count_of_items modules)) _ counted b.0) (modules_rom modules first_number modules (omega arith) kept))
 
 -- ---- words by maps
 

@@ -35,8 +35,11 @@ fn is_missing(alloc: Global, texts: &[&[u8]], name: &[u8]) -> bool {
 }
 
 const BOOT: &[u8] = b".export boot\nboot:\nend commit\n";
+
 const LOST: &[u8] = b".export boot\n.import nowhere\nboot:\nend commit\n";
+
 const PAIR: &[u8] = b".export a\n.export b\na:\nb:\npair_t a b\n";
+
 const CALLER: &[u8] = b".import b\n.export boot\npair_t 1 -1\nboot:\npush b\ndebug\nref boot\n";
 
 #[test]
@@ -72,7 +75,15 @@ fn cells_of_two_modules(rt: HostRuntime) -> Result<(), Fail> {
     assert!(rt; image.boot() == rom(18));
     assert_eq!(rt; image.cells().len(), cells.len());
     for (cell, (t, x, y, z)) in image.cells().iter().zip(cells.iter()) {
-        assert!(rt; *cell == Quad { t: *t, x: *x, y: *y, z: *z });
+        assert!(rt;
+            *cell
+                == Quad {
+                    t: *t,
+                    x: *x,
+                    y: *y,
+                    z: *z
+                }
+        );
     }
     Ok(())
 }

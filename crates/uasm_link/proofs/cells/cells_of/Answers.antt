@@ -52,14 +52,14 @@ loop-rest-preserved c =
     let counted = count_front rest m (behind rest) split in
     let same = ap length c.items-items.ensures.value in
     let words : linked_cells (resolved c.in_ok-labels.labels c.args.exports.now) c.loop-rest.at m.items ≡ linked_cells (name_word all c.loop-rest.at m) c.loop-rest.at m.items =
-      cells_same (resolved c.in_ok-labels.labels c.args.exports.now) (name_word all c.loop-rest.at m)
-        (λ name. word_resolved all c.loop-rest.at m name (number_in c.in_ok-labels.labels name) (number_in c.args.exports.now name)
-          (c.in_ok-labels.ensures name ∙ ap (λ items. label_number c.loop-rest.at items name) c.items-items.ensures.value) (c.requires.numbered name)
-          (omega (arith, counted, c.loop-rest.invariant.within)) c.requires.few)
-        c.loop-rest.at m.items in
+    cells_same (resolved c.in_ok-labels.labels c.args.exports.now) (name_word all c.loop-rest.at m)
+    (λ name. word_resolved all c.loop-rest.at m name (number_in c.in_ok-labels.labels name) (number_in c.args.exports.now name)
+    (c.in_ok-labels.ensures name ∙ ap (λ items. label_number c.loop-rest.at items name) c.items-items.ensures.value) (c.requires.numbered name)
+    (omega (arith, counted, c.loop-rest.invariant.within)) c.requires.few)
+    c.loop-rest.at m.items in
     record {
       linked = rw (c.in_ok-push_cells.ensures, c.items-items.ensures.value, words, append_assoc)
-        (ap (λ cells. c.loop-rest.cells.items ++ cells) (sym (modules_front all c.loop-rest.at rest m (behind rest) split)) ∙ c.loop-rest.invariant.linked);
+          (ap (λ cells. c.loop-rest.cells.items ++ cells) (sym (modules_front all c.loop-rest.at rest m (behind rest) split)) ∙ c.loop-rest.invariant.linked);
       within = omega (arith, counted, same, c.loop-rest.invariant.within);
     }
 

@@ -14,5 +14,5 @@ loop-rest-preserved c = λ name.
     let rest = c.loop-rest.rest.now in
     let split = front_item rest c.name-item.result c.in-len1-up.len_at_least c.name-item.is in
     set_on (holds c.loop-rest.set) (holds c.insert.new.self) c.name-item.result.now (map (λ name. name.now) (behind rest))
-      (λ other. subst (λ n. holds c.insert.new.self other ≡ cond (bytes_eq n other) true (holds c.loop-rest.set other)) c.bytes.ensures.value (c.in_ok-insert.ensures.updates.0 (record { ref_ptr = (0, 0); now = other }))) name
+    (λ other. subst (λ n. holds c.insert.new.self other ≡ cond (bytes_eq n other) true (holds c.loop-rest.set other)) c.bytes.ensures.value (c.in_ok-insert.ensures.updates.0 (record { ref_ptr = (0, 0); now = other }))) name
     ∙ ap (λ r. (holds c.loop-rest.set name || has_name (map (λ name. name.now) r) name)) (sym split) ∙ c.loop-rest.invariant name

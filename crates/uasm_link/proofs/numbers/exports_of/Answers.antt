@@ -39,13 +39,13 @@ loop-rest-preserved c =
     let same = ap length c.items-items.ensures.value in
     record {
       numbered = λ name.
-        rw c.items-items.ensures.value
-        (step_some (number_in c.loop-rest.numbers name) (number_in c.add_exports.new.numbers name) (label_number c.loop-rest.at m.items name) (has_name m.exports name) (export_number (c.loop-rest.at + length m.items) (behind rest) name)
+          rw c.items-items.ensures.value
+          (step_some (number_in c.loop-rest.numbers name) (number_in c.add_exports.new.numbers name) (label_number c.loop-rest.at m.items name) (has_name m.exports name) (export_number (c.loop-rest.at + length m.items) (behind rest) name)
           (c.in_ok-add_exports.ensures name
-            ∙ ap (λ es. option_or (number_in c.loop-rest.numbers name) (if has_name es name then number_in c.in_ok-labels.labels name else None)) c.exports.ensures.value
-            ∙ ap (λ o. option_or (number_in c.loop-rest.numbers name) (if has_name m.exports name then o else None)) (c.in_ok-labels.ensures name ∙ ap (λ items. label_number c.loop-rest.at items name) c.items-items.ensures.value))
+          ∙ ap (λ es. option_or (number_in c.loop-rest.numbers name) (if has_name es name then number_in c.in_ok-labels.labels name else None)) c.exports.ensures.value
+          ∙ ap (λ o. option_or (number_in c.loop-rest.numbers name) (if has_name m.exports name then o else None)) (c.in_ok-labels.ensures name ∙ ap (λ items. label_number c.loop-rest.at items name) c.items-items.ensures.value))
           (export_found c.loop-rest.at m name c.items-items.ensures.is_module)
-        ∙ ap (option_or (number_in c.loop-rest.numbers name)) (sym (export_front c.loop-rest.at rest m (behind rest) name split)) ∙ c.loop-rest.invariant.numbered name);
+          ∙ ap (option_or (number_in c.loop-rest.numbers name)) (sym (export_front c.loop-rest.at rest m (behind rest) name split)) ∙ c.loop-rest.invariant.numbered name);
       within = omega (arith, counted, same, c.loop-rest.invariant.within);
     }
 

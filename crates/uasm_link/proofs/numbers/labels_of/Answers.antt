@@ -16,8 +16,8 @@ loop-rest-preserved c =
     let split = front_item rest item c.in-len1-up.len_at_least c.item-item.is in
     record {
       numbered = λ name.
-        step_if (number_in c.loop-rest.numbers name) (number_in c.add_labels.new.numbers name) (has_name item.labels name) c.loop-rest.at (label_number (c.loop-rest.at + 1) (behind rest) name) (rw c.as_slice.ensures at (c.in_ok-add_labels.ensures name))
-        ∙ ap (option_or (number_in c.loop-rest.numbers name)) (sym (label_front c.loop-rest.at rest item (behind rest) name split)) ∙ c.loop-rest.invariant.numbered name;
+          step_if (number_in c.loop-rest.numbers name) (number_in c.add_labels.new.numbers name) (has_name item.labels name) c.loop-rest.at (label_number (c.loop-rest.at + 1) (behind rest) name) (rw c.as_slice.ensures at (c.in_ok-add_labels.ensures name))
+          ∙ ap (option_or (number_in c.loop-rest.numbers name)) (sym (label_front c.loop-rest.at rest item (behind rest) name split)) ∙ c.loop-rest.invariant.numbered name;
       within = omega (arith, length-behind rest c.in-len1-up.len_at_least, c.loop-rest.invariant.within);
     }
 

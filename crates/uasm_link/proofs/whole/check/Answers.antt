@@ -25,8 +25,8 @@ returns-in-Some-first_missing-clause-fault c =
     let imports : map (λ name. name.now) c.as_slice.result.now ≡ imports_of_all c.args.modules.now = ap (map (λ name. name.now)) c.as_slice.ensures.value ∙ c.in_ok-imports.ensures in
     let asked : (name : Name) → not (holds c.in_ok-set.set name) ≡ not (has_name (exports_of_all c.args.modules.now) name) = λ name. ap not (c.in_ok-set.ensures name ∙ ap (λ names. has_name names name) exports) in
     let looked : option_map (λ name. name.now) c.first_missing.result ≡ find (λ name. not (has_name (exports_of_all c.args.modules.now) name)) (imports_of_all c.args.modules.now) =
-      c.first_missing.ensures ∙ find_same (λ name. not (holds c.in_ok-set.set name)) (λ name. not (has_name (exports_of_all c.args.modules.now) name)) asked (map (λ name. name.now) c.as_slice.result.now)
-      ∙ ap (find (λ name. not (has_name (exports_of_all c.args.modules.now) name))) imports in
+    c.first_missing.ensures ∙ find_same (λ name. not (holds c.in_ok-set.set name)) (λ name. not (has_name (exports_of_all c.args.modules.now) name)) asked (map (λ name. name.now) c.as_slice.result.now)
+    ∙ ap (find (λ name. not (has_name (exports_of_all c.args.modules.now) name))) imports in
     rw c.in_ok-name_copied-2.ensures (fault_missing c.args.modules.now c.in-Some-first_missing.name.now twice (sym looked ∙ ap (option_map (λ name. name.now)) c.in-Some-first_missing.is))
 
 pub returns-then-not-contains-clause-fault : goal.returns-then-not-contains-clause-fault
@@ -37,11 +37,11 @@ returns-then-not-contains-clause-fault c =
     let imports : map (λ name. name.now) c.as_slice.result.now ≡ imports_of_all c.args.modules.now = ap (map (λ name. name.now)) c.as_slice.ensures.value ∙ c.in_ok-imports.ensures in
     let asked : (name : Name) → not (holds c.in_ok-set.set name) ≡ not (has_name (exports_of_all c.args.modules.now) name) = λ name. ap not (c.in_ok-set.ensures name ∙ ap (λ names. has_name names name) exports) in
     let looked : option_map (λ name. name.now) c.first_missing.result ≡ find (λ name. not (has_name (exports_of_all c.args.modules.now) name)) (imports_of_all c.args.modules.now) =
-      c.first_missing.ensures ∙ find_same (λ name. not (holds c.in_ok-set.set name)) (λ name. not (has_name (exports_of_all c.args.modules.now) name)) asked (map (λ name. name.now) c.as_slice.result.now)
-      ∙ ap (find (λ name. not (has_name (exports_of_all c.args.modules.now) name))) imports in
+    c.first_missing.ensures ∙ find_same (λ name. not (holds c.in_ok-set.set name)) (λ name. not (has_name (exports_of_all c.args.modules.now) name)) asked (map (λ name. name.now) c.as_slice.result.now)
+    ∙ ap (find (λ name. not (has_name (exports_of_all c.args.modules.now) name))) imports in
     let found : find (λ name. not (has_name (exports_of_all c.args.modules.now) name)) (imports_of_all c.args.modules.now) ≡ None = sym looked ∙ ap (option_map (λ name. name.now)) c.in_default-first_missing.is in
     let boot : has_name (exports_of_all c.args.modules.now) boot_name ≡ c.contains.result =
-      sym (c.contains.ensures ∙ ap (holds c.in_ok-set.set) c.as_slice-2.ensures ∙ c.in_ok-set.ensures boot_name ∙ ap (λ names. has_name names boot_name) exports) in
+    sym (c.contains.ensures ∙ ap (holds c.in_ok-set.set) c.as_slice-2.ensures ∙ c.in_ok-set.ensures boot_name ∙ ap (λ names. has_name names boot_name) exports) in
     fault_boot c.args.modules.now twice found (boot ∙ c.if-not-contains.true)
 
 pub returns-then-count_items-gt1048560-clause-fault : goal.returns-then-count_items-gt1048560-clause-fault
@@ -52,11 +52,11 @@ returns-then-count_items-gt1048560-clause-fault c =
     let imports : map (λ name. name.now) c.as_slice.result.now ≡ imports_of_all c.args.modules.now = ap (map (λ name. name.now)) c.as_slice.ensures.value ∙ c.in_ok-imports.ensures in
     let asked : (name : Name) → not (holds c.in_ok-set.set name) ≡ not (has_name (exports_of_all c.args.modules.now) name) = λ name. ap not (c.in_ok-set.ensures name ∙ ap (λ names. has_name names name) exports) in
     let looked : option_map (λ name. name.now) c.first_missing.result ≡ find (λ name. not (has_name (exports_of_all c.args.modules.now) name)) (imports_of_all c.args.modules.now) =
-      c.first_missing.ensures ∙ find_same (λ name. not (holds c.in_ok-set.set name)) (λ name. not (has_name (exports_of_all c.args.modules.now) name)) asked (map (λ name. name.now) c.as_slice.result.now)
-      ∙ ap (find (λ name. not (has_name (exports_of_all c.args.modules.now) name))) imports in
+    c.first_missing.ensures ∙ find_same (λ name. not (holds c.in_ok-set.set name)) (λ name. not (has_name (exports_of_all c.args.modules.now) name)) asked (map (λ name. name.now) c.as_slice.result.now)
+    ∙ ap (find (λ name. not (has_name (exports_of_all c.args.modules.now) name))) imports in
     let found : find (λ name. not (has_name (exports_of_all c.args.modules.now) name)) (imports_of_all c.args.modules.now) ≡ None = sym looked ∙ ap (option_map (λ name. name.now)) c.in_default-first_missing.is in
     let boot : has_name (exports_of_all c.args.modules.now) boot_name ≡ c.contains.result =
-      sym (c.contains.ensures ∙ ap (holds c.in_ok-set.set) c.as_slice-2.ensures ∙ c.in_ok-set.ensures boot_name ∙ ap (λ names. has_name names boot_name) exports) in
+    sym (c.contains.ensures ∙ ap (holds c.in_ok-set.set) c.as_slice-2.ensures ∙ c.in_ok-set.ensures boot_name ∙ ap (λ names. has_name names boot_name) exports) in
     let more : item_limit < count_of_items c.args.modules.now = omega (arith, c.count_items.ensures.count, c.if-count_items-gt1048560.true) in
     fault_large c.args.modules.now twice found (boot ∙ c.if-not-contains.false) (search (rules, tests))
 
@@ -68,10 +68,10 @@ returns-clause-sound c =
     let imports : map (λ name. name.now) c.as_slice.result.now ≡ imports_of_all c.args.modules.now = ap (map (λ name. name.now)) c.as_slice.ensures.value ∙ c.in_ok-imports.ensures in
     let asked : (name : Name) → not (holds c.in_ok-set.set name) ≡ not (has_name (exports_of_all c.args.modules.now) name) = λ name. ap not (c.in_ok-set.ensures name ∙ ap (λ names. has_name names name) exports) in
     let looked : option_map (λ name. name.now) c.first_missing.result ≡ find (λ name. not (has_name (exports_of_all c.args.modules.now) name)) (imports_of_all c.args.modules.now) =
-      c.first_missing.ensures ∙ find_same (λ name. not (holds c.in_ok-set.set name)) (λ name. not (has_name (exports_of_all c.args.modules.now) name)) asked (map (λ name. name.now) c.as_slice.result.now)
-      ∙ ap (find (λ name. not (has_name (exports_of_all c.args.modules.now) name))) imports in
+    c.first_missing.ensures ∙ find_same (λ name. not (holds c.in_ok-set.set name)) (λ name. not (has_name (exports_of_all c.args.modules.now) name)) asked (map (λ name. name.now) c.as_slice.result.now)
+    ∙ ap (find (λ name. not (has_name (exports_of_all c.args.modules.now) name))) imports in
     let found : find (λ name. not (has_name (exports_of_all c.args.modules.now) name)) (imports_of_all c.args.modules.now) ≡ None = sym looked ∙ ap (option_map (λ name. name.now)) c.in_default-first_missing.is in
     let boot : has_name (exports_of_all c.args.modules.now) boot_name ≡ c.contains.result =
-      sym (c.contains.ensures ∙ ap (holds c.in_ok-set.set) c.as_slice-2.ensures ∙ c.in_ok-set.ensures boot_name ∙ ap (λ names. has_name names boot_name) exports) in
+    sym (c.contains.ensures ∙ ap (holds c.in_ok-set.set) c.as_slice-2.ensures ∙ c.in_ok-set.ensures boot_name ∙ ap (λ names. has_name names boot_name) exports) in
     let few : count_of_items c.args.modules.now ≤ item_limit = omega (arith, c.count_items.ensures.count, c.if-count_items-gt1048560.false) in
     no_fault c.args.modules.now twice found (boot ∙ c.if-not-contains.false) (search (rules, tests))
