@@ -1,27 +1,27 @@
 -- What modules link to is an image.
 use Rattle.std.proofs.Common.{◌≡◌, ℕ, suc, ◌+◌, ◌<◌, ◌≤◌, ◌^◌, Bool, true, false, List, [], ◌∷◌, ◌++◌, length, length-append, Option, Some, None, refl, sym, ap, ◌∙◌, subst, arith, rules, inl, inr}
 use Rattle.std.specs.Prelude.{◌⊎◌, ◌&&◌, ◌||◌, not, nat_lt, nat_le, if◌then◌else◌, unwrap_or, is_some, option_map}
-use Rattle.std.specs.List.{list_all, list_any, find}
+use Rattle.std.specs.List.{list_all, find}
 use Rattle.std.specs.Option.{option_or}
-use Rattle.std.proofs.lemmas.Bool.{and_parts, and_from, cond-true}
+use Rattle.std.proofs.lemmas.Bool.{and_parts, and_from}
 use Rattle.std.proofs.lemmas.List.Folds.{list_all-append, list_any-append}
 use Rattle.std.specs.Str.{bytes_eq}
 use borrow.Author.Tests.{tests}
 use Rattle.cap_words.specs.declared.word.Quad.{Quad}
-use Rattle.cap_words.specs.Words.{W, Fix, Rom, Ram, Cap, word_of, is_rom_bits, undef}
+use Rattle.cap_words.specs.Words.{W, Rom}
 use Rattle.quad_memory.specs.Image.{is_rom_word, is_rom_quad, is_boot_word, is_cell_count, is_image, RomImage}
 use Rattle.uasm_read.specs.declared.operand.Operand.{Operand}
 use Rattle.uasm_read.specs.declared.operand.Operand.TheVariants as operand
 use Rattle.uasm_read.specs.declared.operation.Operation.{Operation}
 use Rattle.uasm_read.specs.declared.item.Item.{Item}
 use Rattle.uasm_read.specs.Texts.{Name, has_name}
-use Rattle.uasm_read.specs.Operations.{row_of, goes_on}
-use Rattle.uasm_read.specs.Modules.{ModuleParts, is_word, is_instr_t, fits, numbered, may_go_on, begins_with_instruction, is_cell, are_items, is_module}
+use Rattle.uasm_read.specs.Operations.{goes_on}
+use Rattle.uasm_read.specs.Modules.{ModuleParts, is_word, is_instr_t, numbered, may_go_on, begins_with_instruction, is_cell, are_items, is_module}
 use Rattle.uasm_read.specs.Links.{label_number, export_number, first_number, name_word, linked_word, linked_cell, linked_cells, linked_modules, LinkFault, NameTwice, NoSuchName, BootMissing, Large, first_twice, fault_where, link_fault, exports_of_all, imports_of_all, count_of_items, item_limit, boot_name, linked_boot, Linked}
 use Rattle.uasm_read.proofs.Fits.{operand_word}
 use Rattle.uasm_link.specs.Linkable.{is_linkable, are_linkable}
 use Rattle.uasm_link.specs.Numbering.{rom_of}
-use Rattle.uasm_link.proofs.Steps.{Kept, module_kept, export_found}
+use Rattle.uasm_link.proofs.Steps.{module_kept, export_found}
 use Rattle.uasm_link.proofs.Bounds.{Bounded, label_bounded, export_bounded, name_bounded}
 
 -- ---- cells

@@ -1,5 +1,5 @@
 -- What the linker answers.
-use Rattle.std.specs.Prelude.{◌≡◌, Option, Some, Result, Ok, Err}
+use Rattle.std.specs.Prelude.{◌≡◌, Option, Some}
 use Rattle.uasm_read.specs.Links.{LinkFault, NameTwice, NoSuchName, BootMissing, Large}
 use Rattle.uasm_link.specs.declared.error.LinkError.{LinkError}
 use Rattle.uasm_link.specs.declared.error.LinkError.TheVariants as error

@@ -1,5 +1,5 @@
 -- Operands that have a word.
-use Rattle.std.specs.Prelude.{ℕ, Bool, true, ◌&&◌, nat_lt, List, [], ◌∷◌}
+use Rattle.std.specs.Prelude.{Bool, true, ◌&&◌, nat_lt, List, [], ◌∷◌}
 use Rattle.std.specs.List.{list_all}
 use Rattle.cap_words.specs.Fixnums.{in_range}
 use Rattle.uasm_read.specs.declared.operand.Operand.{Operand}

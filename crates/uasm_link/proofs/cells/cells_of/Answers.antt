@@ -1,10 +1,6 @@
-use Rattle.std.proofs.Common.{◌≡◌, ℕ, suc, ◌+◌, ◌-◌, ◌<◌, ◌≤◌, Bool, true, false, List, [], ◌∷◌, ◌++◌, map, length, Option, Some, None, Ok, refl, sym, ap, ◌∙◌, subst, arith, rules, inl, append_assoc, append-nil}
-use Rattle.std.specs.Prelude.{not, nat_lt, cond, is_some, if◌then◌else◌, option_map, unwrap_or}
-use Rattle.std.specs.List.{list_all, find}
-use Rattle.std.specs.Option.{option_or}
-use Rattle.uasm_read.specs.Texts.{Name, has_name}
-use Rattle.uasm_read.proofs.Fronts.{behind, front_item, no_item, length-behind}
-use Rattle.uasm_read.specs.Links.{linked_cells, linked_modules, count_of_items, first_number, name_word}
+use Rattle.std.proofs.Common.{◌≡◌, true, ◌++◌, length, sym, ap, ◌∙◌, subst, arith, append_assoc, append-nil}
+use Rattle.uasm_read.proofs.Fronts.{behind, front_item, no_item}
+use Rattle.uasm_read.specs.Links.{linked_cells, linked_modules, name_word}
 use Rattle.uasm_link.specs.Numbering.{number_in, resolved}
 use Rattle.uasm_link.specs.Linkable.{are_linkable}
 use Rattle.uasm_read.specs.Links.{label_number}

@@ -1,5 +1,5 @@
-use Rattle.std.proofs.Common.{◌≡◌, ℕ, ◌+◌, ◌≤◌, ◌<◌, ◌^◌, ◌++◌, [], map, not, length, min, IsTrue}
-use Rattle.uasm_read.specs.Links.{linked_modules, first_number, count_of_items, item_limit}
+use Rattle.std.proofs.Common.{◌≡◌, ◌+◌, ◌++◌, length}
+use Rattle.uasm_read.specs.Links.{linked_modules, first_number, count_of_items}
 use Rattle.uasm_link.proofs.cells.cells_of.Given as goal
 
 abbrev pub invariant-loop-rest : goal.invariant-loop-rest

@@ -1,11 +1,8 @@
-use Rattle.std.proofs.Common.{◌≡◌, ℕ, suc, ◌+◌, ◌-◌, ◌<◌, ◌≤◌, Bool, true, false, List, [], ◌∷◌, ◌++◌, map, length, Option, Some, None, Ok, refl, sym, ap, ◌∙◌, subst, arith, rules, inl, append_assoc, append-nil}
-use Rattle.std.specs.Prelude.{not, nat_lt, cond, is_some, if◌then◌else◌, option_map, unwrap_or}
-use Rattle.std.specs.List.{list_all, find}
-use Rattle.std.specs.Option.{option_or}
-use Rattle.uasm_read.specs.Texts.{Name, has_name}
+use Rattle.std.proofs.Common.{◌≡◌, true, ◌∷◌, ◌++◌, sym, ap, ◌∙◌, subst, arith, append_assoc, append-nil}
+use Rattle.std.specs.List.{list_all}
 use Rattle.uasm_read.proofs.Fronts.{behind, front_item, no_item, length-behind}
 use Rattle.std.proofs.lemmas.Bool.{and_parts}
-use Rattle.uasm_read.specs.Links.{linked_cell, linked_cells}
+use Rattle.uasm_read.specs.Links.{linked_cells}
 use Rattle.uasm_link.specs.Numbering.{resolved}
 use Rattle.uasm_link.specs.Linkable.{is_linkable, are_linkable}
 use Rattle.uasm_link.proofs.Images.{cells_front, no_cells}

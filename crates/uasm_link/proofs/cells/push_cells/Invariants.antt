@@ -1,4 +1,4 @@
-use Rattle.std.proofs.Common.{◌≡◌, ℕ, ◌+◌, ◌≤◌, ◌<◌, ◌^◌, ◌++◌, [], map, not, length, min, IsTrue}
+use Rattle.std.proofs.Common.{◌≡◌, ◌+◌, ◌<◌, ◌^◌, ◌++◌, length, IsTrue}
 use Rattle.uasm_read.specs.Links.{linked_cells}
 use Rattle.uasm_link.specs.Numbering.{resolved}
 use Rattle.uasm_link.specs.Linkable.{are_linkable}

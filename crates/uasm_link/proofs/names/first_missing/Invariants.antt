@@ -1,6 +1,5 @@
-use Rattle.std.proofs.Common.{◌≡◌, ℕ, ◌+◌, ◌≤◌, ◌<◌, ◌^◌, ◌++◌, [], map, not, length, min, IsTrue}
+use Rattle.std.proofs.Common.{◌≡◌, map, not, length}
 use Rattle.std.specs.List.{find}
-use Rattle.uasm_read.specs.Texts.{Name, has_name}
 use Rattle.uasm_read.specs.Reading.{holds}
 use Rattle.uasm_link.proofs.names.first_missing.Given as goal
 

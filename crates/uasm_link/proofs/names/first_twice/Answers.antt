@@ -1,9 +1,7 @@
-use Rattle.std.proofs.Common.{◌≡◌, ℕ, suc, ◌+◌, ◌-◌, ◌<◌, ◌≤◌, Bool, true, false, List, [], ◌∷◌, ◌++◌, map, length, min, Option, Some, None, Ok, refl, sym, ap, ◌∙◌, subst, arith, rules, inl, append_assoc, append-nil}
-use Rattle.std.specs.Prelude.{not, cond, is_some, if◌then◌else◌, option_map, unwrap_or}
-use Rattle.std.specs.Option.{option_or}
+use Rattle.std.proofs.Common.{◌≡◌, true, false, ◌∷◌, map, refl, sym, ◌∙◌, subst}
+use Rattle.std.specs.Prelude.{cond}
 use Rattle.std.specs.Str.{bytes_eq}
-use Rattle.uasm_read.specs.Texts.{Name, has_name}
-use Rattle.uasm_read.proofs.Fronts.{behind, front_item, no_item, length-behind}
+use Rattle.uasm_read.proofs.Fronts.{behind, front_item, no_item}
 use Rattle.uasm_read.specs.Reading.{holds}
 use Rattle.uasm_link.proofs.Twice.{Before, before_begun, before_ended, before_here, before_on}
 use Rattle.uasm_link.proofs.Steps.{not_true, not_false}

@@ -1,5 +1,4 @@
-use Rattle.std.proofs.Common.{◌≡◌, ℕ, ◌+◌, ◌≤◌, ◌<◌, ◌^◌, ◌++◌, [], map, not, length, min, IsTrue}
-use Rattle.uasm_read.specs.Texts.{Name, has_name}
+use Rattle.std.proofs.Common.{map, length}
 use Rattle.uasm_read.specs.Reading.{holds}
 use Rattle.uasm_link.proofs.Twice.{Before}
 use Rattle.uasm_link.proofs.names.first_twice.Given as goal

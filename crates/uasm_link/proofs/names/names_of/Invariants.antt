@@ -1,4 +1,4 @@
-use Rattle.std.proofs.Common.{◌≡◌, ℕ, ◌+◌, ◌≤◌, ◌<◌, ◌^◌, ◌++◌, [], map, not, length, min, IsTrue}
+use Rattle.std.proofs.Common.{◌≡◌, ◌++◌, map, length}
 use Rattle.std.specs.List.{flat_map}
 use Rattle.uasm_link.specs.Numbering.{names_on}
 use Rattle.uasm_link.proofs.names.names_of.Given as goal

@@ -1,4 +1,4 @@
-use Rattle.std.proofs.Common.{◌≡◌, ℕ, ◌+◌, ◌≤◌, ◌<◌, ◌^◌, ◌++◌, [], map, not, length, min, IsTrue}
+use Rattle.std.proofs.Common.{◌≡◌, ◌++◌, map, length}
 use Rattle.uasm_link.proofs.names.push_names.Given as goal
 
 abbrev pub invariant-loop-rest : goal.invariant-loop-rest

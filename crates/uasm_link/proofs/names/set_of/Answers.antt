@@ -1,9 +1,8 @@
-use Rattle.std.proofs.Common.{◌≡◌, ℕ, suc, ◌+◌, ◌-◌, ◌<◌, ◌≤◌, Bool, true, false, List, [], ◌∷◌, ◌++◌, map, length, min, Option, Some, None, Ok, refl, sym, ap, ◌∙◌, subst, arith, rules, inl, append_assoc, append-nil}
-use Rattle.std.specs.Prelude.{not, cond, is_some, if◌then◌else◌, option_map, unwrap_or}
-use Rattle.std.specs.Option.{option_or}
+use Rattle.std.proofs.Common.{◌≡◌, true, map, sym, ap, ◌∙◌, subst}
+use Rattle.std.specs.Prelude.{cond}
 use Rattle.std.specs.Str.{bytes_eq}
-use Rattle.uasm_read.specs.Texts.{Name, has_name}
-use Rattle.uasm_read.proofs.Fronts.{behind, front_item, no_item, length-behind}
+use Rattle.uasm_read.specs.Texts.{has_name}
+use Rattle.uasm_read.proofs.Fronts.{behind, front_item}
 use Rattle.uasm_read.specs.Reading.{holds}
 use Rattle.std.specs.Prelude.{◌||◌}
 use Rattle.uasm_link.proofs.Twice.{set_on}

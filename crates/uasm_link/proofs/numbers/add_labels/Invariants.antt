@@ -1,4 +1,4 @@
-use Rattle.std.proofs.Common.{◌≡◌, ℕ, ◌+◌, ◌≤◌, ◌<◌, ◌^◌, ◌++◌, [], map, not, length, min, IsTrue}
+use Rattle.std.proofs.Common.{◌≡◌, length}
 use Rattle.std.specs.Option.{option_or}
 use Rattle.std.specs.Prelude.{Some, None, if◌then◌else◌}
 use Rattle.uasm_read.specs.Texts.{Name, has_name}

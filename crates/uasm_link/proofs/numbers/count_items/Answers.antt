@@ -1,10 +1,6 @@
-use Rattle.std.proofs.Common.{◌≡◌, ℕ, suc, ◌+◌, ◌-◌, ◌<◌, ◌≤◌, Bool, true, false, List, [], ◌∷◌, ◌++◌, map, length, min, Option, Some, None, Ok, refl, sym, ap, ◌∙◌, subst, arith, rules, inl, append_assoc, append-nil}
-use Rattle.std.specs.Prelude.{not, cond, is_some, if◌then◌else◌, option_map, unwrap_or}
-use Rattle.std.specs.Option.{option_or}
-use Rattle.std.specs.Str.{bytes_eq}
-use Rattle.uasm_read.specs.Texts.{Name, has_name}
-use Rattle.uasm_read.proofs.Fronts.{behind, front_item, no_item, length-behind}
-use Rattle.uasm_link.proofs.Steps.{was_put, step_or, step_if, step_some, export_found, label_front, export_front, count_front, no_label, no_export, no_count}
+use Rattle.std.proofs.Common.{◌≡◌, true, length, sym, ap, ◌∙◌, subst, arith}
+use Rattle.uasm_read.proofs.Fronts.{behind, front_item, no_item}
+use Rattle.uasm_link.proofs.Steps.{count_front, no_count}
 use Rattle.std.specs.List.{list_all}
 use Rattle.uasm_read.specs.Modules.{is_module}
 use Rattle.uasm_read.specs.Links.{count_of_items}

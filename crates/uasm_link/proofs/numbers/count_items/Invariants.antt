@@ -1,4 +1,4 @@
-use Rattle.std.proofs.Common.{◌≡◌, ℕ, ◌+◌, ◌≤◌, ◌<◌, ◌^◌, ◌++◌, [], map, not, length, min, IsTrue}
+use Rattle.std.proofs.Common.{◌≡◌, ◌+◌, ◌≤◌, length, min, IsTrue}
 use Rattle.std.specs.List.{list_all}
 use Rattle.uasm_read.specs.Modules.{is_module}
 use Rattle.uasm_read.specs.Links.{count_of_items, item_limit}

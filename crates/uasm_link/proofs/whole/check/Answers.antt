@@ -1,10 +1,7 @@
-use Rattle.std.proofs.Common.{◌≡◌, ℕ, suc, ◌+◌, ◌-◌, ◌<◌, ◌≤◌, Bool, true, false, List, [], ◌∷◌, ◌++◌, map, length, Option, Some, None, Ok, refl, sym, ap, ◌∙◌, subst, arith, rules, inl, append_assoc, append-nil}
-use Rattle.std.specs.Prelude.{not, nat_lt, cond, is_some, if◌then◌else◌, option_map, unwrap_or}
-use Rattle.std.specs.List.{list_all, find}
-use Rattle.std.specs.Option.{option_or}
+use Rattle.std.proofs.Common.{◌≡◌, ◌<◌, ◌≤◌, [], map, None, sym, ap, ◌∙◌, arith, rules}
+use Rattle.std.specs.Prelude.{not, option_map}
+use Rattle.std.specs.List.{find}
 use Rattle.uasm_read.specs.Texts.{Name, has_name}
-use Rattle.uasm_read.proofs.Fronts.{behind, front_item, no_item, length-behind}
-use Rattle.std.proofs.Common.{min}
 use borrow.Author.Tests.{tests}
 use Rattle.uasm_read.specs.Reading.{holds}
 use Rattle.uasm_read.specs.Links.{first_twice, exports_of_all, imports_of_all, boot_name, item_limit, count_of_items}
