@@ -8,3 +8,4 @@ mod NameForms
 mod Searches
 mod Formed
 pub mod Fits
+mod Spelled

@@ -6,3 +6,4 @@ pub mod Faults
 pub mod Assembles
 pub mod Links
 pub mod Reading
+pub mod Laws

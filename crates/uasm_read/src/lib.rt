@@ -5,6 +5,7 @@ mod build;
 mod error;
 mod faults;
 mod item;
+mod laws;
 mod line;
 mod lines;
 mod module;
@@ -16,6 +17,7 @@ mod texts;
 
 pub use error::{ReadModuleError, UasmCause, UasmRefused};
 pub use item::{Item, Items, Names};
+pub use laws::lines_spell_operations;
 pub use module::Module;
 pub use operand::Operand;
 pub use read::read_module;

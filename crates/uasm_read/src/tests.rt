@@ -1,6 +1,6 @@
 //! Worked texts: what each assembles to, and where it is refused.
 
-use crate::{Module, Operand, ReadModuleError, UasmCause, read_module};
+use crate::{Module, Operand, ReadModuleError, UasmCause, lines_spell_operations, read_module};
 use std::alloc::Global;
 use std::test::Fail;
 
@@ -158,4 +158,9 @@ fn modules(rt: HostRuntime) -> Result<(), Fail> {
     long.push(b';')?;
     assert!(rt; is_refused(rt.alloc(), &long, 1, UasmCause::TooLong));
     Ok(())
+}
+
+#[test]
+fn laws_have_no_body(_rt: HostRuntime) {
+    lines_spell_operations();
 }
