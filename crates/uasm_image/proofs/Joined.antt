@@ -1,0 +1,17 @@
+-- What several calls wrote at the end of one list.
+use Rattle.std.proofs.Common.{◌≡◌, ℕ, ◌+◌, ◌<◌, List, [], ◌∷◌, ◌++◌, length, take, get_or, Result, Ok, Err, refl, sym, ap, ◌∙◌, append_assoc, arith}
+use Rattle.std.specs.Prelude.{OnOk}
+use Rattle.std.specs.List.{flat_map}
+use Rattle.std.proofs.lemmas.List.{flat_map_more, take_more}
+
+-- four pieces, of which the last may fail
+pub four_joined : {E : Type 0} (r : Result Unit E) (a b c d e w x y z : List ℕ) → b ≡ a ++ w → c ≡ b ++ x → d ≡ c ++ y → OnOk r (e ≡ d ++ z) → OnOk r (e ≡ a ++ (w ++ x ++ y ++ z))
+four_joined (Ok u) a b c d e w x y z p q s t = rw (t, s, q, p) (simp append_assoc)
+four_joined (Err f) a b c d e w x y z p q s t = tt
+
+-- one more piece
+pub piece_joined : {X : Type 0} (f : X → List ℕ) (front : List ℕ) (xs : List X) (i : ℕ) (x : X) (old new : List ℕ) → i < length xs → x ≡ get_or xs i x → old ≡ front ++ flat_map f (take i xs) → new ≡ old ++ f x
+    → new ≡ front ++ flat_map f (take (i + 1) xs)
+piece_joined f front xs i x old new lt is so_far more =
+    let t : take (i + 1) xs ≡ take i xs ++ x ∷ [] = take_more xs i x lt ∙ ap (λ e. take i xs ++ e ∷ []) (sym is) in
+    rw (more, so_far, t) (flat_map_more f front (take i xs) x)

@@ -1,0 +1,30 @@
+-- What reading exactly gives, in the words of the contract.
+use Rattle.std.proofs.Common.{◌≡◌, ℕ, List, Result, Ok, Err, refl, sym, ap, subst, ◌∙◌}
+use Rattle.std.specs.Prelude.{IfOk, MatchResult}
+use Rattle.quad_memory.specs.Image.{RomImage}
+use Rattle.quad_memory.specs.declared.image.Image.{Image}
+use Rattle.uasm_image.specs.declared.error.ImageCause.{ImageCause}
+use Rattle.uasm_image.specs.declared.error.ImageRefused.{ImageRefused}
+use Rattle.uasm_image.specs.declared.error.DecodeError.{DecodeError}
+use Rattle.uasm_image.specs.declared.error.DecodeError.TheVariants.{NoMemory, Refused}
+use Rattle.uasm_image.specs.Spelled.{spelled, IsImage}
+use Rattle.uasm_image.specs.Reading.{Gives, read}
+use Rattle.uasm_image.specs.Refused.{IsRefusedAt}
+use Rattle.uasm_image.proofs.Steps.{IsBytes, ok_is, err_no_ok}
+use Rattle.uasm_image.proofs.Whole.{read_ok}
+use Rattle.uasm_image.proofs.Again.{read_again}
+use Rattle.uasm_image.proofs.Faults.{read_err}
+
+pub is_image : (bytes : List ℕ) (r : Result RomImage DecodeError) → IsBytes bytes → Gives (λ i. i) r (read bytes) → IfOk r (λ i. bytes ≡ spelled i)
+is_image bytes (Ok i) fits given = (read_ok bytes i fits given).same
+is_image bytes (Err e) fits given = tt
+
+pub is_only : (bytes : List ℕ) (r : Result RomImage DecodeError) (i : RomImage) → IsImage i → bytes ≡ spelled i → Gives (λ j. j) r (read bytes) → MatchResult r (λ found. found ≡ i) (λ e. e ≡ NoMemory)
+is_only bytes (Ok j) i good same given = ok_is j i (sym given ∙ ap read same ∙ read_again i good)
+is_only bytes (Err NoMemory) i good same given = refl
+is_only bytes (Err (Refused why)) i good same given = err_no_ok i why (sym given ∙ ap read same ∙ read_again i good)
+
+pub is_refused : (bytes : List ℕ) (r : Result RomImage DecodeError) (at : ℕ) (cause : ImageCause) → IsBytes bytes → r ≡ Err (Refused (record { at = at; cause = cause })) → Gives (λ i. i) r (read bytes) → IsRefusedAt bytes at cause
+is_refused bytes r at cause fits is given =
+    let told : read bytes ≡ Err (record { at = at; cause = cause }) = subst (λ (x : Result RomImage DecodeError). Gives (λ i. i) x (read bytes)) is given in
+    read_err bytes (record { at = at; cause = cause }) fits told
