@@ -24,7 +24,7 @@ use Rattle.uasm_image.proofs.Hits.{count_hit, boot_hit, word_hit}
 abbrev pub Refuses : List ℕ → ImageRefused → Type 0
 Refuses bytes e = IsRefusedAt bytes e.at e.cause
 
-goes_begins : (bytes : List ℕ) → GoesOn bytes → Begins bytes
+pub goes_begins : (bytes : List ℕ) → GoesOn bytes → Begins bytes
 goes_begins bytes g = (g.0, g.1, g.2 ∷ g.3, g.4)
 
 not_both : {X : Type 0} (b : Bool) → b ≡ false → b ≡ true → X

@@ -1,7 +1,8 @@
 -- What several calls wrote at the end of one list.
-use Rattle.std.proofs.Common.{◌≡◌, ℕ, ◌+◌, ◌<◌, List, [], ◌∷◌, ◌++◌, length, take, get_or, Result, Ok, Err, refl, sym, ap, ◌∙◌, append_assoc, arith}
+use Rattle.std.proofs.Common.{◌≡◌, ℕ, ◌+◌, ◌<◌, Bool, true, List, [], ◌∷◌, ◌++◌, length, take, get_or, Result, Ok, Err, refl, sym, ap, ◌∙◌, append_assoc, arith}
 use Rattle.std.specs.Prelude.{OnOk}
-use Rattle.std.specs.List.{flat_map}
+use Rattle.std.specs.List.{flat_map, list_all}
+use Rattle.std.proofs.lemmas.List.Folds.{list_all_more}
 use Rattle.std.proofs.lemmas.List.{flat_map_more, take_more}
 
 -- four pieces, of which the last may fail
@@ -15,3 +16,9 @@ pub piece_joined : {X : Type 0} (f : X → List ℕ) (front : List ℕ) (xs : Li
 piece_joined f front xs i x old new lt is so_far more =
     let t : take (i + 1) xs ≡ take i xs ++ x ∷ [] = take_more xs i x lt ∙ ap (λ e. take i xs ++ e ∷ []) (sym is) in
     rw (more, so_far, t) (flat_map_more f front (take i xs) x)
+
+-- one more item that passes the test
+pub one_more : {X : Type 0} (test : X → Bool) (xs : List X) (i : ℕ) (x : X) → i < length xs → x ≡ get_or xs i x → list_all test (take i xs) ≡ true → test x ≡ true → list_all test (take (i + 1) xs) ≡ true
+one_more test xs i x lt is so_far h =
+    let k : test (get_or xs i x) ≡ true = ap test (sym is) ∙ h in
+    rw (list_all_more test xs i x lt, so_far, k) refl

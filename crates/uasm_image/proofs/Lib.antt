@@ -8,5 +8,6 @@ pub mod Fills
 pub mod Stops
 pub mod Hits
 pub mod Faults
-pub mod Told
 pub mod Parts
+pub mod Once
+pub mod Told

@@ -1,5 +1,5 @@
 -- What reading exactly gives, in the words of the contract.
-use Rattle.std.proofs.Common.{◌≡◌, ℕ, List, Result, Ok, Err, refl, sym, ap, subst, ◌∙◌}
+use Rattle.std.proofs.Common.{◌≡◌, ℕ, List, Result, Ok, Err, ◌⊎◌, inl, inr, refl, sym, ap, subst, ◌∙◌}
 use Rattle.std.specs.Prelude.{IfOk, MatchResult}
 use Rattle.quad_memory.specs.Image.{RomImage}
 use Rattle.quad_memory.specs.declared.image.Image.{Image}
@@ -14,9 +14,10 @@ use Rattle.uasm_image.proofs.Steps.{IsBytes, ok_is, err_no_ok}
 use Rattle.uasm_image.proofs.Whole.{read_ok}
 use Rattle.uasm_image.proofs.Again.{read_again}
 use Rattle.uasm_image.proofs.Faults.{read_err}
+use Rattle.uasm_image.proofs.Once.{faultless, one_fault}
 
-pub is_image : (bytes : List ℕ) (r : Result RomImage DecodeError) → IsBytes bytes → Gives (λ i. i) r (read bytes) → IfOk r (λ i. bytes ≡ spelled i)
-is_image bytes (Ok i) fits given = (read_ok bytes i fits given).same
+pub is_image : (bytes : List ℕ) (r : Result RomImage DecodeError) → IsBytes bytes → Gives (λ i. i) r (read bytes) → IfOk r (λ i. IsImage i × (bytes ≡ spelled i))
+is_image bytes (Ok i) fits given = let w = read_ok bytes i fits given in (w.image, w.same)
 is_image bytes (Err e) fits given = tt
 
 pub is_only : (bytes : List ℕ) (r : Result RomImage DecodeError) (i : RomImage) → IsImage i → bytes ≡ spelled i → Gives (λ j. j) r (read bytes) → MatchResult r (λ found. found ≡ i) (λ e. e ≡ NoMemory)
@@ -28,3 +29,13 @@ pub is_refused : (bytes : List ℕ) (r : Result RomImage DecodeError) (at : ℕ)
 is_refused bytes r at cause fits is given =
     let told : read bytes ≡ Err (record { at = at; cause = cause }) = subst (λ (x : Result RomImage DecodeError). Gives (λ i. i) x (read bytes)) is given in
     read_err bytes (record { at = at; cause = cause }) fits told
+
+pub is_faulty : (bytes : List ℕ) (r : Result RomImage DecodeError) (at : ℕ) (cause : ImageCause) → IsBytes bytes → IsRefusedAt bytes at cause → Gives (λ i. i) r (read bytes)
+    → MatchResult r (λ _. ⊥) (λ e. (e ≡ NoMemory) ⊎ (e ≡ Refused (record { at = at; cause = cause })))
+is_faulty bytes (Ok i) at cause fits fault given =
+    let w = read_ok bytes i fits given in
+    faultless i at cause w.image (subst (λ (b : List ℕ). IsRefusedAt b at cause) w.same fault)
+is_faulty bytes (Err NoMemory) at cause fits fault given = inl refl
+is_faulty bytes (Err (Refused why)) at cause fits fault given =
+    let one = one_fault bytes why.at at why.cause cause (read_err bytes why fits given) fault in
+    inr (λ k. Refused (record { at = one.0 k; cause = one.1 k }))

@@ -1,6 +1,6 @@
 //! From bytes to the image whose bytes they are.
 
-ghost use Rattle.std.specs.Prelude.{◌≡◌, ◌≤◌, ◌<◌, ◌^◌, ℕ, IsTrue, length, IfOk, Ok, Err, MatchResult};
+ghost use Rattle.std.specs.Prelude.{◌≡◌, ◌≤◌, ◌<◌, ◌^◌, ℕ, IsTrue, length, IfOk, Err, ◌⊎◌, MatchResult};
 ghost use Rattle.cap_words.specs.Words.{W};
 ghost use Rattle.quad_memory.specs.Image as rule;
 ghost use Rattle.quad_memory.specs.Image.{RomImage};
@@ -19,14 +19,18 @@ const MAGIC: &[u8] = b"UFQ1";
 /// The image whose bytes these are: `UFQ1`, the count of cells, the boot word, and the four words of each cell, each number in 32 bits
 /// with its lowest byte first.
 ///
-/// Bytes that are no image's are refused at the first place that makes them so. Any call may answer `NoMemory`.
+/// Bytes that are no image's have one fault, and are refused where it is. Any call may answer `NoMemory`.
 pub fn decode(alloc: Global, bytes: &[u8]) -> Result<Image, DecodeError>
-    ensures image { IfOk result (λ i. bytes.now ≡ spelled i) }
+    ensures image { IfOk result (λ i. IsImage i × (bytes.now ≡ spelled i)) }
 
     // The bytes of an image are refused for want of memory alone.
     ensures only { (i : RomImage) → IsImage i → bytes.now ≡ spelled i → MatchResult result (λ found. found ≡ i) (λ e. e ≡ DecodeError.NoMemory) }
     ensures refused { (at : ℕ) (cause : ImageCause) →
         result ≡ Err (DecodeError.Refused (record { at = at; cause = cause })) → IsRefusedAt bytes.now at cause }
+
+    // Bytes that have a fault are refused for it, or for want of memory.
+    ensures faulty { (at : ℕ) (cause : ImageCause) → IsRefusedAt bytes.now at cause →
+        MatchResult result (λ _. ⊥) (λ e. (e ≡ DecodeError.NoMemory) ⊎ (e ≡ DecodeError.Refused (record { at = at; cause = cause }))) }
     ensures exact { Gives (λ i. i) result (reading.read bytes.now) }
 {
     image_of(alloc, bytes)
