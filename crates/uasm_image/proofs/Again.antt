@@ -1,18 +1,15 @@
 -- What is spelled so is read.
-use Rattle.std.proofs.Common.{◌≡◌, ℕ, zero, suc, ◌+◌, ◌*◌, ◌^◌, ◌<◌, ◌≤◌, Bool, true, false, cond, ltb, ◌&&◌, List, [], ◌∷◌, ◌++◌, length, take, drop, Result, Ok, Err, IsTrue, refl, sym, ap, subst, ◌∙◌, append_assoc, arith, rules}
-use Rattle.std.specs.Int.{w32, from_le_bytes}
+use Rattle.std.proofs.Common.{◌≡◌, ℕ, ◌+◌, ◌*◌, ◌^◌, ◌<◌, ◌≤◌, Bool, true, false, ltb, ◌&&◌, List, [], ◌∷◌, ◌++◌, length, Ok, IsTrue, refl, sym, ap, ◌∙◌, append_assoc, arith}
 use Rattle.std.specs.List.{flat_map, list_all}
 use Rattle.std.proofs.lemmas.Bool.{le-ltb}
 use Rattle.std.proofs.lemmas.Bool.Decides.{nat_tests}
 use Rattle.std.proofs.lemmas.List.{append-nil, length-append, drop_at}
 use Rattle.std.proofs.lemmas.Nat.{from_le_bytes-to_le_bytes_4}
 use Rattle.cap_words.specs.declared.word.Quad.{Quad}
-use Rattle.cap_words.specs.Words.{W, word_of, bits_of}
-use Rattle.quad_memory.specs.Image.{RomImage, is_image, is_cell_count, is_boot_word, is_rom_word, is_rom_quad}
-use Rattle.uasm_image.specs.declared.error.ImageRefused.{ImageRefused}
-use Rattle.uasm_image.specs.declared.error.ImageCause.TheVariants.{Magic, Count, Word, Extra}
+use Rattle.cap_words.specs.Words.{W, bits_of}
+use Rattle.quad_memory.specs.Image.{RomImage, is_cell_count, is_boot_word, is_rom_word, is_rom_quad}
 use Rattle.uasm_image.specs.Spelled.{number, word, cell, magic, spelled, is_exact, is_exact_quad, IsImage}
-use Rattle.uasm_image.specs.Reading.{◌>>=◌, fault, number_at, word_at, cell_at, cells_at, fits_magic, count_at, read}
+use Rattle.uasm_image.specs.Reading.{number_at, word_at, cell_at, cells_at, fits_magic, count_at, read}
 use Rattle.uasm_image.proofs.Exact.{word_back, bits_below, boot_rom, boot_exact}
 use Rattle.uasm_image.proofs.Steps.{IsGood}
 use Rattle.uasm_image.proofs.Whole.{both_left, both_right, spelled_len}
@@ -97,8 +94,8 @@ read_again i good =
     let magic_fits : fits_magic bytes ≡ true = refl in
     let many : number_at bytes 4 ≡ Ok n = number_again bytes magic (word i.boot ++ flat_map cell i.cells) 4 n refl refl (omega (arith, le)) in
     let boot : word_at (is_boot_word n) bytes 8 ≡ Ok i.boot =
-        word_again (is_boot_word n) n bytes (magic ++ number n) (flat_map cell i.cells) 8 i.boot le (record { kept = boot_rom n i.boot booted; exact = boot_exact n i.boot booted }) booted refl refl in
+    word_again (is_boot_word n) n bytes (magic ++ number n) (flat_map cell i.cells) 8 i.boot le (record { kept = boot_rom n i.boot booted; exact = boot_exact n i.boot booted }) booted refl refl in
     let cells : cells_at n bytes 12 n ≡ Ok i.cells =
-        cells_again n bytes (magic ++ number n ++ word i.boot) [] 12 i.cells le kept good.exact (ap (λ (f : List ℕ). (magic ++ number n ++ word i.boot) ++ f) (sym (append-nil (flat_map cell i.cells)))) refl in
+    cells_again n bytes (magic ++ number n ++ word i.boot) [] 12 i.cells le kept good.exact (ap (λ (f : List ℕ). (magic ++ number n ++ word i.boot) ++ f) (sym (append-nil (flat_map cell i.cells)))) refl in
     let end : ltb (12 + 16 * n) (length bytes) ≡ false = le-ltb _ _ (omega (arith, spelled_len i)) in
     rw (many, counted, boot, cells, end) refl

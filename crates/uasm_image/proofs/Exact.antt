@@ -1,5 +1,5 @@
 -- Words and the bits that spell them.
-use Rattle.std.proofs.Common.{◌≡◌, ℕ, ◌+◌, ◌-◌, ◌^◌, ◌<◌, ◌≤◌, ℤ, pos, negsuc, IsTrue, rules, refl, arith}
+use Rattle.std.proofs.Common.{◌≡◌, ℕ, ◌^◌, ◌<◌, ◌≤◌, pos, negsuc, IsTrue, rules, refl, arith}
 use Rattle.std.proofs.lemmas.Bool.Decides.{nat_tests}
 use Rattle.cap_words.specs.Words.{W, Fix, Rom, Ram, Cap, word_of, bits_of}
 use Rattle.quad_memory.specs.Image.{is_boot_word, is_rom_word}

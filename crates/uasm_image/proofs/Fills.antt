@@ -1,19 +1,14 @@
 -- Images whose bytes begin with words that were read.
-use Rattle.std.proofs.Common.{◌≡◌, ℕ, zero, suc, ◌+◌, ◌*◌, ◌^◌, ◌<◌, ◌≤◌, Bool, true, false, ◌&&◌, List, [], ◌∷◌, ◌++◌, length, take, IsTrue, refl, sym, ap, subst, ◌∙◌, append_assoc, arith, rules}
-use Rattle.std.specs.Int.{w32, from_le_bytes}
+use Rattle.std.proofs.Common.{◌≡◌, ℕ, zero, suc, ◌*◌, ◌<◌, ◌&&◌, List, [], ◌∷◌, ◌++◌, length, IsTrue, refl, sym, ap, subst, ◌∙◌, append_assoc, arith}
 use Rattle.std.specs.List.{flat_map, list_all, AllByRecursion}
-use Rattle.std.proofs.lemmas.List.{append-nil}
 use Rattle.std.proofs.lemmas.Bool.Decides.{nat_tests}
-use Rattle.std.proofs.lemmas.Nat.{from_le_bytes-to_le_bytes_4}
 use Rattle.cap_words.specs.declared.word.Quad.{Quad}
-use Rattle.cap_words.specs.Words.{W, Rom, undef, bits_of, word_of}
-use Rattle.quad_memory.specs.Image.{RomImage, is_image, is_cell_count, is_boot_word, is_rom_word, is_rom_quad}
-use Rattle.uasm_image.specs.Spelled.{number, word, cell, magic, spelled, is_exact, is_exact_quad, IsImage}
-use Rattle.uasm_image.specs.Refused.{Begins, GoesOn}
-use Rattle.uasm_image.proofs.Exact.{word_back, bits_below, boot_rom, boot_exact}
+use Rattle.cap_words.specs.Words.{W, Rom, undef}
+use Rattle.quad_memory.specs.Image.{RomImage, is_cell_count, is_boot_word, is_rom_quad}
+use Rattle.uasm_image.specs.Spelled.{number, word, cell, magic, spelled, is_exact_quad, IsImage}
+use Rattle.uasm_image.specs.Refused.{GoesOn}
 use Rattle.uasm_image.proofs.Steps.{IsGood}
-use Rattle.uasm_image.proofs.Whole.{both, both_left, both_right, good_quad}
-use Rattle.uasm_image.proofs.Again.{GoodWords, good_words, count_below}
+use Rattle.uasm_image.proofs.Whole.{both, good_quad}
 
 -- ---- cells that begin with some words
 
@@ -86,7 +81,7 @@ goes_on_words count boot ws counted booted good lt =
     } in
     let head = magic ++ number count ++ word boot in
     let same : spelled i ≡ (head ++ flat_map word ws) ++ f.next ∷ f.rest =
-        ap (λ (k : ℕ). magic ++ number k ++ word boot ++ flat_map cell f.cells) f.many ∙ ap (λ (r : List ℕ). head ++ r) f.same ∙ sym (append_assoc head (flat_map word ws) (f.next ∷ f.rest)) in
+    ap (λ (k : ℕ). magic ++ number k ++ word boot ++ flat_map cell f.cells) f.many ∙ ap (λ (r : List ℕ). head ++ r) f.same ∙ sym (append_assoc head (flat_map word ws) (f.next ∷ f.rest)) in
     (i, is, f.next, f.rest, same)
 
 boot_word : (count : ℕ) → IsTrue (is_cell_count count) → IsTrue (is_boot_word count (Rom 16))

@@ -1,16 +1,16 @@
 -- What the bytes of an image hold behind a front that they share with others.
-use Rattle.std.proofs.Common.{◌≡◌, ℕ, zero, suc, ◌+◌, ◌*◌, ◌^◌, ◌<◌, ◌≤◌, Bool, true, false, ◌&&◌, List, [], ◌∷◌, ◌++◌, length, take, IsTrue, ◌⊎◌, inl, inr, refl, sym, ap, subst, ◌∙◌, append_assoc, arith}
+use Rattle.std.proofs.Common.{◌≡◌, ℕ, ◌^◌, ◌<◌, ◌≤◌, true, ◌&&◌, List, [], ◌∷◌, ◌++◌, length, IsTrue, refl, sym, ap, subst, ◌∙◌, append_assoc, arith}
 use Rattle.std.specs.Int.{w32, from_le_bytes}
 use Rattle.std.specs.List.{flat_map, list_all, AllByRecursion}
 use Rattle.std.proofs.lemmas.Nat.{from_le_bytes-to_le_bytes_4}
 use Rattle.cap_words.specs.declared.word.Quad.{Quad}
 use Rattle.cap_words.specs.Words.{W, bits_of, word_of}
-use Rattle.quad_memory.specs.Image.{RomImage, is_image, is_cell_count, is_boot_word, is_rom_word, is_rom_quad}
-use Rattle.uasm_image.specs.Spelled.{number, word, cell, magic, spelled, is_exact, is_exact_quad, IsImage}
+use Rattle.quad_memory.specs.Image.{RomImage, is_cell_count, is_boot_word, is_rom_word, is_rom_quad}
+use Rattle.uasm_image.specs.Spelled.{number, word, cell, magic, spelled, is_exact_quad, IsImage}
 use Rattle.uasm_image.proofs.Exact.{word_back, bits_below, boot_rom, boot_exact}
 use Rattle.uasm_image.proofs.Steps.{IsGood}
 use Rattle.uasm_image.proofs.Whole.{both_left, both_right, words_of}
-use Rattle.uasm_image.proofs.Again.{GoodWords, good_words, count_below}
+use Rattle.uasm_image.proofs.Again.{good_words, count_below}
 
 pub number_one : (a b : ℕ) → a < 2 ^ 32 → b < 2 ^ 32 → number a ≡ number b → a ≡ b
 number_one a b la lb e = sym (from_le_bytes-to_le_bytes_4 a la) ∙ ap (from_le_bytes w32) e ∙ from_le_bytes-to_le_bytes_4 b lb

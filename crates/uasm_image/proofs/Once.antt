@@ -1,11 +1,11 @@
 -- An image's bytes are no other image's, and bytes have one fault at most.
-use Rattle.std.proofs.Common.{◌≡◌, ℕ, zero, suc, ◌+◌, ◌-◌, ◌*◌, ◌/◌, ◌^◌, ◌<◌, ◌≤◌, Bool, true, List, [], ◌∷◌, ◌++◌, length, take, drop, Ok, IsTrue, ◌⊎◌, inl, inr, refl, sym, ap, subst, ◌∙◌, append_assoc, arith}
+use Rattle.std.proofs.Common.{◌≡◌, ℕ, ◌+◌, ◌-◌, ◌*◌, ◌/◌, ◌^◌, ◌<◌, ◌≤◌, List, [], ◌∷◌, ◌++◌, length, take, drop, inl, inr, refl, sym, ap, ◌∙◌, append_assoc, arith}
 use Rattle.std.proofs.lemmas.Bool.{cases_lt}
-use Rattle.std.proofs.lemmas.List.{take_all, take-take, take-append-le, take-append-drop, take_at, length-append, append-nil}
+use Rattle.std.proofs.lemmas.List.{take-take, take-append-le, take-append-drop, take_at, length-append, append-nil}
 use Rattle.std.proofs.Math.Seq.{take-append-add}
-use Rattle.quad_memory.specs.Image.{RomImage, is_cell_count}
+use Rattle.quad_memory.specs.Image.{RomImage}
 use Rattle.uasm_image.specs.declared.error.ImageCause.{ImageCause}
-use Rattle.uasm_image.specs.Spelled.{number, word, magic, spelled, IsImage}
+use Rattle.uasm_image.specs.Spelled.{number, spelled, IsImage}
 use Rattle.uasm_image.specs.Reading.{read}
 use Rattle.uasm_image.specs.Refused as refused
 use Rattle.uasm_image.specs.Refused.{Begins, GoesOn, IsRefusedAt}

@@ -1,5 +1,5 @@
 -- The word at which the reading of cells stops.
-use Rattle.std.proofs.Common.{◌≡◌, ℕ, zero, suc, ◌+◌, ◌*◌, ◌<◌, ◌≤◌, List, [], ◌∷◌, ◌++◌, length, take, Result, Ok, Err, ◌⊎◌, inl, inr, refl, sym, ap, subst, ◌∙◌, append_assoc, arith}
+use Rattle.std.proofs.Common.{◌≡◌, ℕ, zero, suc, ◌+◌, ◌*◌, ◌<◌, ◌≤◌, List, [], ◌∷◌, ◌++◌, length, take, Ok, Err, inl, inr, refl, sym, ap, ◌∙◌, append_assoc, arith}
 use Rattle.std.specs.List.{flat_map, AllByRecursion}
 use Rattle.std.proofs.lemmas.List.{append-nil}
 use Rattle.cap_words.specs.declared.word.Quad.{Quad}
@@ -24,7 +24,9 @@ stops_here : (count : ℕ) (bytes : List ℕ) (at n : ℕ) (e : ImageRefused) �
 stops_here count bytes at n e le lt h =
     let z : at + 4 * 0 ≡ at = omega arith in
     record {
-      ws = []; good = tt; within = lt;
+      ws = [];
+      good = tt;
+      within = lt;
       same = rw z (sym (append-nil (take at bytes)));
       reach = rw z le;
       stop = rw z h;
@@ -57,21 +59,21 @@ cell_err count bytes at e fits le h =
     elim (bind_err (word_at rule bytes at) (λ t. word_at rule bytes (at + 4) >>= λ x. word_at rule bytes (at + 8) >>= λ y. word_at rule bytes (at + 12) >>= λ z. Ok (record { t = t; x = x; y = y; z = z })) e h) [
       | inl bad ↦ stops_here count bytes at 4 e le (omega arith) bad
       | inr t ↦
-        let ft = one at t.0 t.1 in let wt = ft.whole in
-        elim (bind_err (word_at rule bytes (at + 4)) (λ x. word_at rule bytes (at + 8) >>= λ y. word_at rule bytes (at + 12) >>= λ z. Ok (record { t = t.0; x = x; y = y; z = z })) e t.2) [
-          | inl bad ↦ stops_later count bytes at (at + 4) 3 e t.0 refl ft (stops_here count bytes (at + 4) 3 e wt (omega arith) bad)
-          | inr x ↦
-            let fx = one (at + 4) x.0 x.1 in let wx = fx.whole in
-            elim (bind_err (word_at rule bytes (at + 8)) (λ y. word_at rule bytes (at + 12) >>= λ z. Ok (record { t = t.0; x = x.0; y = y; z = z })) e x.2) [
-              | inl bad ↦ stops_later count bytes at (at + 4) 3 e t.0 refl ft (stops_later count bytes (at + 4) (at + 8) 2 e x.0 (omega arith) fx (stops_here count bytes (at + 8) 2 e (omega arith) (omega arith) bad))
-              | inr y ↦
-                let fy = one (at + 8) y.0 y.1 in let wy = fy.whole in
-                elim (bind_err (word_at rule bytes (at + 12)) (λ z. Ok (record { t = t.0; x = x.0; y = y.0; z = z })) e y.2) [
-                  | inl bad ↦ stops_later count bytes at (at + 4) 3 e t.0 refl ft (stops_later count bytes (at + 4) (at + 8) 2 e x.0 (omega arith) fx (stops_later count bytes (at + 8) (at + 12) 1 e y.0 (omega arith) fy (stops_here count bytes (at + 12) 1 e (omega arith) (omega arith) bad)))
-                  | inr z ↦ ok_no_err _ _ z.2
+          let ft = one at t.0 t.1 in let wt = ft.whole in
+          elim (bind_err (word_at rule bytes (at + 4)) (λ x. word_at rule bytes (at + 8) >>= λ y. word_at rule bytes (at + 12) >>= λ z. Ok (record { t = t.0; x = x; y = y; z = z })) e t.2) [
+            | inl bad ↦ stops_later count bytes at (at + 4) 3 e t.0 refl ft (stops_here count bytes (at + 4) 3 e wt (omega arith) bad)
+            | inr x ↦
+                let fx = one (at + 4) x.0 x.1 in let wx = fx.whole in
+                elim (bind_err (word_at rule bytes (at + 8)) (λ y. word_at rule bytes (at + 12) >>= λ z. Ok (record { t = t.0; x = x.0; y = y; z = z })) e x.2) [
+                  | inl bad ↦ stops_later count bytes at (at + 4) 3 e t.0 refl ft (stops_later count bytes (at + 4) (at + 8) 2 e x.0 (omega arith) fx (stops_here count bytes (at + 8) 2 e (omega arith) (omega arith) bad))
+                  | inr y ↦
+                      let fy = one (at + 8) y.0 y.1 in let wy = fy.whole in
+                      elim (bind_err (word_at rule bytes (at + 12)) (λ z. Ok (record { t = t.0; x = x.0; y = y.0; z = z })) e y.2) [
+                        | inl bad ↦ stops_later count bytes at (at + 4) 3 e t.0 refl ft (stops_later count bytes (at + 4) (at + 8) 2 e x.0 (omega arith) fx (stops_later count bytes (at + 8) (at + 12) 1 e y.0 (omega arith) fy (stops_here count bytes (at + 12) 1 e (omega arith) (omega arith) bad)))
+                        | inr z ↦ ok_no_err _ _ z.2
+                      ]
                 ]
-            ]
-        ]
+          ]
     ]
 
 cell_later : (count : ℕ) (bytes : List ℕ) (at n : ℕ) (e : ImageRefused) (q : Quad) → CellFits count bytes at q → Stops count bytes (at + 16) n e → Stops count bytes at (suc (suc (suc (suc n)))) e
@@ -88,10 +90,10 @@ cells_err count bytes at (suc n) e fits le h =
     elim (bind_err (cell_at count bytes at) (λ q. cells_at count bytes (at + 16) n >>= λ qs. Ok (q ∷ qs)) e h) [
       | inl bad ↦ wider count bytes at 4 (4 * suc n) e (omega arith) (cell_err count bytes at e fits le bad)
       | inr q ↦
-        let f = cell_ok count bytes at q.0 fits q.1 in
-        let reach : at + 16 ≤ length bytes = let w = f.z.whole in omega arith in
-        elim (bind_err (cells_at count bytes (at + 16) n) (λ qs. Ok (q.0 ∷ qs)) e q.2) [
-          | inl bad ↦ wider count bytes at (suc (suc (suc (suc (4 * n))))) (4 * suc n) e (omega arith) (cell_later count bytes at (4 * n) e q.0 f (cells_err count bytes (at + 16) n e fits reach bad))
-          | inr qs ↦ ok_no_err _ _ qs.2
-        ]
+          let f = cell_ok count bytes at q.0 fits q.1 in
+          let reach : at + 16 ≤ length bytes = let w = f.z.whole in omega arith in
+          elim (bind_err (cells_at count bytes (at + 16) n) (λ qs. Ok (q.0 ∷ qs)) e q.2) [
+            | inl bad ↦ wider count bytes at (suc (suc (suc (suc (4 * n))))) (4 * suc n) e (omega arith) (cell_later count bytes at (4 * n) e q.0 f (cells_err count bytes (at + 16) n e fits reach bad))
+            | inr qs ↦ ok_no_err _ _ qs.2
+          ]
     ]

@@ -2,9 +2,7 @@
 use Rattle.std.proofs.Common.{◌≡◌, ℕ, List, Result, Ok, Err, ◌⊎◌, inl, inr, refl, sym, ap, subst, ◌∙◌}
 use Rattle.std.specs.Prelude.{IfOk, MatchResult}
 use Rattle.quad_memory.specs.Image.{RomImage}
-use Rattle.quad_memory.specs.declared.image.Image.{Image}
 use Rattle.uasm_image.specs.declared.error.ImageCause.{ImageCause}
-use Rattle.uasm_image.specs.declared.error.ImageRefused.{ImageRefused}
 use Rattle.uasm_image.specs.declared.error.DecodeError.{DecodeError}
 use Rattle.uasm_image.specs.declared.error.DecodeError.TheVariants.{NoMemory, Refused}
 use Rattle.uasm_image.specs.Spelled.{spelled, IsImage}

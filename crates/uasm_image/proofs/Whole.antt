@@ -1,16 +1,16 @@
 -- What is read is spelled so: the bytes up to a place, from the values that reading gave.
-use Rattle.std.proofs.Common.{◌≡◌, ℕ, zero, suc, ◌+◌, ◌*◌, ◌^◌, ◌<◌, ◌≤◌, Bool, true, false, cond, ltb, ◌&&◌, ◌||◌, List, [], ◌∷◌, ◌++◌, length, take, nat_eq, Result, Ok, Err, IsTrue, ◌⊎◌, inl, inr, refl, sym, ap, subst, ◌∙◌, append_assoc, rules, arith}
-use Rattle.std.specs.List.{flat_map, list_all, starts_with, AllByRecursion}
-use Rattle.std.proofs.lemmas.Bool.{ltb-false, eqb-true}
+use Rattle.std.proofs.Common.{◌≡◌, ℕ, zero, suc, ◌+◌, ◌*◌, ◌^◌, ◌<◌, ◌≤◌, Bool, true, false, cond, ltb, ◌&&◌, ◌||◌, List, [], ◌∷◌, ◌++◌, length, take, nat_eq, Result, Ok, IsTrue, ◌⊎◌, inl, inr, refl, sym, ap, subst, ◌∙◌, append_assoc, rules, arith}
+use Rattle.std.specs.List.{flat_map, list_all, starts_with}
+use Rattle.std.proofs.lemmas.Bool.{ltb-false}
 use Rattle.std.proofs.lemmas.Bool.Decides.{Decides-eqb}
 use Rattle.std.proofs.lemmas.Slice.Eq.{slice_eq-Decides}
 use Rattle.std.proofs.lemmas.List.{append-nil, take_all}
 use Rattle.cap_words.specs.declared.word.Quad.{Quad}
 use Rattle.cap_words.specs.Words.{W}
-use Rattle.quad_memory.specs.Image.{RomImage, is_image, is_cell_count, is_boot_word, is_rom_word, is_rom_quad}
+use Rattle.quad_memory.specs.Image.{RomImage, is_cell_count, is_boot_word, is_rom_word, is_rom_quad}
 use Rattle.uasm_image.specs.declared.error.ImageRefused.{ImageRefused}
-use Rattle.uasm_image.specs.declared.error.ImageCause.TheVariants.{Magic, Count, Word, Truncated, Extra}
-use Rattle.uasm_image.specs.Spelled.{number, word, cell, magic, spelled, is_exact, is_exact_quad, IsImage}
+use Rattle.uasm_image.specs.declared.error.ImageCause.TheVariants.{Magic, Count, Extra}
+use Rattle.uasm_image.specs.Spelled.{number, word, cell, magic, spelled, is_exact_quad, IsImage}
 use Rattle.uasm_image.specs.Reading.{◌>>=◌, fault, number_at, word_at, cell_at, cells_at, fits_magic, count_at, read}
 use Rattle.uasm_image.proofs.Exact.{boot_rom}
 use Rattle.uasm_image.proofs.Steps.{IsBytes, bind_ok, chosen, ok_is, err_no_ok, number_ok, IsGood, Fits, word_ok}
@@ -94,7 +94,7 @@ cells_ok count bytes at (suc n) qs fits le e =
     let good = good_quad count a.0 first.t.good first.x.good first.y.good first.z.good in
     let place : at + 16 + 16 * n ≡ at + 16 * suc n = omega arith in
     let joined : take (at + 16 * suc n) bytes ≡ take at bytes ++ flat_map cell (a.0 ∷ b.0) =
-        ap (λ k. take k bytes) (sym place) ∙ rest.same ∙ ap (λ f. f ++ flat_map cell b.0) (cell_same count bytes at a.0 first) ∙ append_assoc (take at bytes) (cell a.0) (flat_map cell b.0) in
+    ap (λ k. take k bytes) (sym place) ∙ rest.same ∙ ap (λ f. f ++ flat_map cell b.0) (cell_same count bytes at a.0 first) ∙ append_assoc (take at bytes) (cell a.0) (flat_map cell b.0) in
     subst (λ (ps : List Quad). CellsFit count bytes at (suc n) ps) (ok_is (a.0 ∷ b.0) qs b.2)
     (record {
       many = ap suc rest.many;
@@ -118,9 +118,9 @@ magic_stands bytes e long =
     elim (magic_is bytes e) [
       | inl hit ↦ hit
       | inr front ↦
-        let all : take (length bytes) magic ≡ magic = take_all (length bytes) magic long in
-        let same : bytes ≡ magic = front ∙ all in
-        rw same refl
+          let all : take (length bytes) magic ≡ magic = take_all (length bytes) magic long in
+          let same : bytes ≡ magic = front ∙ all in
+          rw same refl
     ]
 
 -- the head of an image of n cells
@@ -135,14 +135,14 @@ unfolding count_at
 count_ok bytes n fits e =
     elim (chosen (fits_magic bytes) (number_at bytes 4 >>= λ m. cond (is_cell_count m) (Ok m) (fault 4 Count)) (fault 0 Magic) (Ok n) e) [
       | inl hit ↦
-        let b = bind_ok (number_at bytes 4) (λ m. cond (is_cell_count m) (Ok m) (fault 4 Count)) n hit.1 in
-        let s = number_ok bytes 4 b.0 fits b.1 in
-        elim (chosen (is_cell_count b.0) (Ok b.0) (fault 4 Count) (Ok n) b.2) [
-          | inl counted ↦
-            subst (λ (m : ℕ). HeadFits bytes m) (ok_is _ _ counted.1)
-            (record { counted = counted.0; same = s.same ∙ ap (λ f. f ++ number b.0) (magic_stands bytes hit.0 (let w = s.whole in omega arith)); whole = s.whole; below = s.below })
-          | inr miss ↦ err_no_ok _ _ miss.1
-        ]
+          let b = bind_ok (number_at bytes 4) (λ m. cond (is_cell_count m) (Ok m) (fault 4 Count)) n hit.1 in
+          let s = number_ok bytes 4 b.0 fits b.1 in
+          elim (chosen (is_cell_count b.0) (Ok b.0) (fault 4 Count) (Ok n) b.2) [
+            | inl counted ↦
+                subst (λ (m : ℕ). HeadFits bytes m) (ok_is _ _ counted.1)
+                (record { counted = counted.0; same = s.same ∙ ap (λ f. f ++ number b.0) (magic_stands bytes hit.0 (let w = s.whole in omega arith)); whole = s.whole; below = s.below })
+            | inr miss ↦ err_no_ok _ _ miss.1
+          ]
       | inr miss ↦ err_no_ok _ _ miss.1
     ]
 

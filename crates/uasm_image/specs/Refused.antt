@@ -1,5 +1,5 @@
 -- Where bytes that are no image's first leave the format, and why.
-use Rattle.std.specs.Prelude.{◌≡◌, ℕ, ◌+◌, ◌*◌, ◌/◌, ◌≤◌, ◌<◌, List, [], ◌∷◌, ◌++◌, length, take}
+use Rattle.std.specs.Prelude.{◌≡◌, ℕ, ◌+◌, ◌*◌, ◌/◌, ◌≤◌, List, ◌∷◌, ◌++◌, length, take}
 use Rattle.quad_memory.specs.Image.{RomImage}
 use Rattle.uasm_image.specs.declared.error.ImageCause.{ImageCause}
 use Rattle.uasm_image.specs.declared.error.ImageCause.TheVariants.{Magic, Count, Word, Truncated, Extra}

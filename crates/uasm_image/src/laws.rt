@@ -11,12 +11,10 @@ ghost use Rattle.uasm_image.specs.declared.error.ImageCause.{ImageCause};
 pub fn images_are_read_back()
     ensures read { (i : RomImage) → IsImage i → read (spelled i) ≡ Ok i }
     ensures one { (i j : RomImage) → IsImage i → IsImage j → spelled i ≡ spelled j → i ≡ j }
-{
-}
+{}
 
 /// Bytes have one fault at most, and the bytes of an image have none.
 pub fn faults_are_one()
     ensures one { (bytes : List ℕ) (a b : ℕ) (c d : ImageCause) → IsRefusedAt bytes a c → IsRefusedAt bytes b d → (a ≡ b) × (c ≡ d) }
     ensures none { (i : RomImage) (at : ℕ) (cause : ImageCause) → IsImage i → IsRefusedAt (spelled i) at cause → ⊥ }
-{
-}
+{}

@@ -1,5 +1,4 @@
-use Rattle.std.proofs.Common.{◌≡◌, Err, ap, subst, sym, ◌∙◌, arith}
-use Rattle.uasm_image.specs.Reading.{Gives, read}
+use Rattle.std.proofs.Common.{arith}
 use Rattle.uasm_image.proofs.Told.{is_image, is_only, is_refused, is_faulty}
 use Rattle.uasm_image.proofs.reading.decode.Goals as goal
 

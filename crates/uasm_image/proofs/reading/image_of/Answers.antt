@@ -1,4 +1,4 @@
-use Rattle.std.proofs.Common.{◌≡◌, Err, refl, sym, arith}
+use Rattle.std.proofs.Common.{refl, sym, arith}
 use Rattle.std.proofs.lemmas.Result.{err_from_is_err_and}
 use Rattle.uasm_image.specs.Reading.{read}
 use Rattle.uasm_image.proofs.Parts.{image_made, image_read, extra_read, cells_failed}
