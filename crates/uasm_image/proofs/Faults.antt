@@ -10,12 +10,12 @@ use Rattle.quad_memory.specs.Image.{RomImage, is_cell_count, is_boot_word, is_ro
 use Rattle.uasm_image.specs.declared.error.ImageRefused.{ImageRefused}
 use Rattle.uasm_image.specs.declared.error.ImageCause.TheVariants.{Magic, Count, Word, Extra}
 use Rattle.uasm_image.specs.Spelled.{number, word, magic, spelled}
-use Rattle.uasm_image.specs.Reading.{◌>>=◌, fault, number_at, word_at, cells_at, fits_magic, count_at, read}
+use Rattle.uasm_image.specs.Reading.{◌>>=◌, fault, number_at, word_at, cells_at, fits_magic, count_at, end_at, read}
 use Rattle.uasm_image.specs.Refused as refused
 use Rattle.uasm_image.specs.Refused.{Begins, GoesOn, IsRefusedAt}
 use Rattle.uasm_image.proofs.Exact.{boot_rom}
 use Rattle.uasm_image.proofs.Steps.{IsBytes, bind_err, chosen, err_is, ok_no_err, Ends, number_ok, number_err, Fits, word_ok, word_err}
-use Rattle.uasm_image.proofs.Whole.{magic_is, magic_stands, HeadFits, count_ok, cells_ok, Fronts, fronts, ended}
+use Rattle.uasm_image.proofs.Whole.{magic_is, magic_stands, HeadFits, count_ok, cells_ok, Fronts, fronts, after_count, after_boot, after_cells}
 use Rattle.uasm_image.proofs.Stops.{Stops, cells_err}
 use Rattle.uasm_image.proofs.Fills.{goes_on_words, goes_on_head, goes_on_magic, goes_on_none}
 use Rattle.uasm_image.proofs.Hits.{count_hit, boot_hit, word_hit}
@@ -163,24 +163,32 @@ extra_at bytes count i f long =
     let same : bytes ≡ spelled i ++ more.0 ∷ more.1 = sym (take-append-drop n bytes) ∙ ap (λ (r : List ℕ). take n bytes ++ r) more.2 ∙ ap (λ (r : List ℕ). r ++ more.0 ∷ more.1) (sym f.same) in
     subst (λ (p : ℕ). IsRefusedAt bytes p Extra) f.len (refused.extra i f.image more.0 more.1 same)
 
+end_err : (bytes : List ℕ) (at : ℕ) (e : ImageRefused) → end_at bytes at ≡ Err e → (at < length bytes) × (e ≡ record { at = at; cause = Extra })
+end_err bytes at e h =
+    elim (chosen (ltb at (length bytes)) (fault at Extra) (Ok tt) (Err e) h) [
+      | inl long ↦ (ltb-true _ _ long.0, sym (err_is {A = Unit {0}} _ _ long.1))
+      | inr end ↦ ok_no_err _ _ end.1
+    ]
+
 pub read_err : (bytes : List ℕ) (e : ImageRefused) → IsBytes bytes → read bytes ≡ Err e → Refuses bytes e
 unfolding read
 read_err bytes e fits h =
-    elim (bind_err (count_at bytes) (λ count. word_at (is_boot_word count) bytes 8 >>= λ boot. cells_at count bytes 12 count >>= λ cells. ended bytes count boot cells) e h) [
+    elim (bind_err (count_at bytes) (after_count bytes) e h) [
       | inl bad ↦ count_err bytes e fits bad
       | inr a ↦
           let head = count_ok bytes a.0 fits a.1 in
-          elim (bind_err (word_at (is_boot_word a.0) bytes 8) (λ boot. cells_at a.0 bytes 12 a.0 >>= λ cells. ended bytes a.0 boot cells) e a.2) [
+          elim (bind_err (word_at (is_boot_word a.0) bytes 8) (after_boot bytes a.0) e a.2) [
             | inl bad ↦ boot_err bytes a.0 e fits head bad
             | inr b ↦
                 let boots = word_ok (is_boot_word a.0) a.0 bytes 8 b.0 (boot_rom a.0) fits b.1 in
-                elim (bind_err (cells_at a.0 bytes 12 a.0) (λ cells. ended bytes a.0 b.0 cells) e b.2) [
+                elim (bind_err (cells_at a.0 bytes 12 a.0) (after_cells bytes a.0 b.0) e b.2) [
                   | inl bad ↦ stops_err bytes a.0 b.0 e fits head boots (cells_err a.0 bytes 12 a.0 e fits boots.whole bad)
                   | inr d ↦
                       let f = fronts bytes a.0 b.0 d.0 head boots (cells_ok a.0 bytes 12 a.0 d.0 fits boots.whole d.1) in
-                      elim (chosen (ltb (12 + 16 * a.0) (length bytes)) (fault {A = RomImage} (12 + 16 * a.0) Extra) (Ok (record { boot = b.0; cells = d.0 })) (Err e) d.2) [
-                        | inl long ↦ subst (λ (r : ImageRefused). Refuses bytes r) (err_is {A = RomImage} _ _ long.1) (extra_at bytes a.0 (record { boot = b.0; cells = d.0 }) f (ltb-true _ _ long.0))
-                        | inr good ↦ ok_no_err _ _ good.1
+                      elim (bind_err (end_at bytes (12 + 16 * a.0)) (λ u. Ok (record { boot = b.0; cells = d.0 })) e d.2) [
+                        | inl bad ↦ let more = end_err bytes (12 + 16 * a.0) e bad in
+                            subst (λ (r : ImageRefused). Refuses bytes r) (sym more.1) (extra_at bytes a.0 (record { boot = b.0; cells = d.0 }) f more.0)
+                        | inr good ↦ ok_no_err _ _ good.2
                       ]
                 ]
           ]

@@ -8,7 +8,7 @@ use Rattle.uasm_image.specs.declared.error.ImageRefused.{ImageRefused}
 use Rattle.uasm_image.specs.declared.error.ImageCause.TheVariants.{Extra}
 use Rattle.uasm_image.specs.declared.error.DecodeError.{DecodeError}
 use Rattle.uasm_image.specs.declared.error.DecodeError.TheVariants.{NoMemory, Refused}
-use Rattle.uasm_image.specs.Reading.{word_at, cells_at, count_at, read, Fails}
+use Rattle.uasm_image.specs.Reading.{word_at, cells_at, count_at, end_at, read, Fails}
 use Rattle.uasm_image.proofs.Exact.{boot_rom}
 use Rattle.uasm_image.proofs.Steps.{IsBytes, word_ok}
 use Rattle.uasm_image.proofs.Whole.{count_ok, cells_ok, fronts}
@@ -39,19 +39,15 @@ none_made false x h e = cc
 pub image_made : (bytes : List ℕ) (count : ℕ) (boot : W) (cells : List Quad) → IsBytes bytes → Parts bytes count boot cells → None ≡ where_kept (is_image boot cells) (record { boot = boot; cells = cells }) → ⊥
 image_made bytes count boot cells fits p e = none_made (is_image boot cells) (record { boot = boot; cells = cells }) (parts_image bytes count boot cells fits p) e
 
-pub image_read : (bytes : List ℕ) (count : ℕ) (boot : W) (cells : List Quad) (i : RomImage) → Parts bytes count boot cells → length bytes ≤ 12 + 16 * count
+pub image_read : (bytes : List ℕ) (count : ℕ) (boot : W) (cells : List Quad) (i : RomImage) (u : Unit {0}) → Parts bytes count boot cells → end_at bytes (12 + 16 * count) ≡ Ok u
     → Some i ≡ where_kept (is_image boot cells) (record { boot = boot; cells = cells }) → read bytes ≡ Ok i
 unfolding read
-image_read bytes count boot cells i p end e =
-    let long : ltb (12 + 16 * count) (length bytes) ≡ false = le-ltb _ _ end in
-    rw (p.count_is, p.boot_is, p.cells_are, long) (ap (λ (j : RomImage). Ok j) (made (is_image boot cells) (record { boot = boot; cells = cells }) i e))
+image_read bytes count boot cells i u p end e =
+    rw (p.count_is, p.boot_is, p.cells_are, end) (ap (λ (j : RomImage). Ok j) (made (is_image boot cells) (record { boot = boot; cells = cells }) i e))
 
-pub extra_read : (bytes : List ℕ) (count : ℕ) (boot : W) (cells : List Quad) (e : DecodeError) (why : ImageRefused) → Parts bytes count boot cells → 12 + 16 * count < length bytes → why ≡ record { at = 12 + 16 * count; cause = Extra } → e ≡ Refused why
-    → Fails e (read bytes)
+pub end_failed : (bytes : List ℕ) (count : ℕ) (boot : W) (cells : List Quad) (why : ImageRefused) → Parts bytes count boot cells → end_at bytes (12 + 16 * count) ≡ Err why → read bytes ≡ Err why
 unfolding read
-extra_read bytes count boot cells e why p end h k =
-    let long : ltb (12 + 16 * count) (length bytes) ≡ true = lt-ltb _ _ end in
-    rw (k, p.count_is, p.boot_is, p.cells_are, long) (ap (λ (w : ImageRefused). Err w) (sym h))
+end_failed bytes count boot cells why p end = rw (p.count_is, p.boot_is, p.cells_are, end) refl
 
 pub cells_failed : (bytes : List ℕ) (count : ℕ) (boot : W) (e : DecodeError) → count_at bytes ≡ Ok count → word_at (is_boot_word count) bytes 8 ≡ Ok boot → Fails e (cells_at count bytes 12 count) → Fails e (read bytes)
 unfolding read

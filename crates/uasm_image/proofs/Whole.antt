@@ -11,7 +11,7 @@ use Rattle.quad_memory.specs.Image.{RomImage, is_cell_count, is_boot_word, is_ro
 use Rattle.uasm_image.specs.declared.error.ImageRefused.{ImageRefused}
 use Rattle.uasm_image.specs.declared.error.ImageCause.TheVariants.{Magic, Count, Extra}
 use Rattle.uasm_image.specs.Spelled.{number, word, cell, magic, spelled, is_exact_quad, IsImage}
-use Rattle.uasm_image.specs.Reading.{◌>>=◌, fault, number_at, word_at, cell_at, cells_at, fits_magic, count_at, read}
+use Rattle.uasm_image.specs.Reading.{◌>>=◌, fault, number_at, word_at, cell_at, cells_at, fits_magic, count_at, end_at, read}
 use Rattle.uasm_image.proofs.Exact.{boot_rom}
 use Rattle.uasm_image.proofs.Steps.{IsBytes, bind_ok, chosen, ok_is, err_no_ok, number_ok, IsGood, Fits, word_ok}
 
@@ -179,21 +179,33 @@ pub record Whole (bytes : List ℕ) (i : RomImage) : Type 0 where
   pub image : IsImage i
   pub same : bytes ≡ spelled i
 
--- what is asked behind the cells
-abbrev pub ended : List ℕ → ℕ → W → List Quad → Result RomImage ImageRefused
-ended bytes count boot cells = cond (ltb (12 + 16 * count) (length bytes)) (fault (12 + 16 * count) Extra) (Ok (record { boot = boot; cells = cells }))
+-- what follows the count, the boot word and the cells in reading
+abbrev pub after_count : List ℕ → ℕ → Result RomImage ImageRefused
+after_count bytes count = word_at (is_boot_word count) bytes 8 >>= λ boot. cells_at count bytes 12 count >>= λ cells. end_at bytes (12 + 16 * count) >>= λ end. Ok (record { boot = boot; cells = cells })
+
+abbrev pub after_boot : List ℕ → ℕ → W → Result RomImage ImageRefused
+after_boot bytes count boot = cells_at count bytes 12 count >>= λ cells. end_at bytes (12 + 16 * count) >>= λ end. Ok (record { boot = boot; cells = cells })
+
+abbrev pub after_cells : List ℕ → ℕ → W → List Quad → Result RomImage ImageRefused
+after_cells bytes count boot cells = end_at bytes (12 + 16 * count) >>= λ end. Ok (record { boot = boot; cells = cells })
+
+end_ok : (bytes : List ℕ) (at : ℕ) (u : Unit {0}) → end_at bytes at ≡ Ok u → length bytes ≤ at
+end_ok bytes at u e =
+    elim (chosen (ltb at (length bytes)) (fault at Extra) (Ok tt) (Ok u) e) [
+      | inl long ↦ err_no_ok _ _ long.1
+      | inr end ↦ ltb-false _ _ end.0
+    ]
 
 pub read_ok : (bytes : List ℕ) (i : RomImage) → IsBytes bytes → read bytes ≡ Ok i → Whole bytes i
 unfolding read
 read_ok bytes i fits e =
-    let a = bind_ok (count_at bytes) (λ count. word_at (is_boot_word count) bytes 8 >>= λ boot. cells_at count bytes 12 count >>= λ cells. ended bytes count boot cells) i e in
-    let b = bind_ok (word_at (is_boot_word a.0) bytes 8) (λ boot. cells_at a.0 bytes 12 a.0 >>= λ cells. ended bytes a.0 boot cells) i a.2 in
-    let d = bind_ok (cells_at a.0 bytes 12 a.0) (λ cells. ended bytes a.0 b.0 cells) i b.2 in
+    let a = bind_ok (count_at bytes) (after_count bytes) i e in
+    let b = bind_ok (word_at (is_boot_word a.0) bytes 8) (after_boot bytes a.0) i a.2 in
+    let d = bind_ok (cells_at a.0 bytes 12 a.0) (after_cells bytes a.0 b.0) i b.2 in
+    let end = bind_ok (end_at bytes (12 + 16 * a.0)) (λ u. Ok (record { boot = b.0; cells = d.0 })) i d.2 in
     let head = count_ok bytes a.0 fits a.1 in
     let boot = word_ok (is_boot_word a.0) a.0 bytes 8 b.0 (boot_rom a.0) fits b.1 in
     let cells = cells_ok a.0 bytes 12 a.0 d.0 fits boot.whole d.1 in
     let f = fronts bytes a.0 b.0 d.0 head boot cells in
-    elim (chosen (ltb (12 + 16 * a.0) (length bytes)) (fault {A = RomImage} (12 + 16 * a.0) Extra) (Ok (record { boot = b.0; cells = d.0 })) (Ok i) d.2) [
-      | inl long ↦ err_no_ok _ _ long.1
-      | inr end ↦ subst (λ (j : RomImage). Whole bytes j) (ok_is _ _ end.1) (record { image = f.image; same = sym (f.same ∙ take_all (12 + 16 * a.0) bytes (ltb-false _ _ end.0)) })
-    ]
+    let short = end_ok bytes (12 + 16 * a.0) end.0 end.1 in
+    subst (λ (j : RomImage). Whole bytes j) (ok_is _ _ end.2) (record { image = f.image; same = sym (f.same ∙ take_all (12 + 16 * a.0) bytes short) })

@@ -57,13 +57,18 @@ count_at bytes =
     (number_at bytes 4 >>= λ n. if is_cell_count n then Ok n else fault 4 Count) else
     fault 0 Magic
 
+-- no bytes follow at a place
+abbrev pub end_at : List ℕ → ℕ → Result (Unit {0}) ImageRefused
+end_at bytes at = if nat_lt at (length bytes) then fault at Extra else Ok tt
+
 -- the image that all the bytes are
 unfoldable pub read : List ℕ → Result RomImage ImageRefused
 read bytes = do
   count ← count_at bytes
   boot ← word_at (is_boot_word count) bytes 8
   cells ← cells_at count bytes 12 count
-  if nat_lt (12 + 16 * count) (length bytes) then fault (12 + 16 * count) Extra else Ok (record { boot = boot; cells = cells })
+  end ← end_at bytes (12 + 16 * count)
+  Ok (record { boot = boot; cells = cells })
 
 -- what a call answered, seen by `view`, is what reading gives, unless memory ran out
 abbrev pub Fails : {Y : Type 0} → DecodeError → Result Y ImageRefused → Type 0

@@ -43,10 +43,7 @@ fn image_of(alloc: Global, bytes: &[u8]) -> Result<Image, DecodeError>
     let count = count_at(bytes)?;
     let boot = boot_at(bytes, count)?;
     let cells = cells_of(alloc, bytes, count)?;
-    let end = 12 + 16 * count;
-    if bytes.len() > end as usize {
-        return Err(refused(end, ImageCause::Extra).into());
-    }
+    end_at(bytes, 12 + 16 * count)?;
     match Image::new(boot, cells) {
         Some(image) => Ok(image),
         None => unreachable!(),
@@ -85,6 +82,16 @@ fn is_cell_count(count: u32) -> bool
     ensures { result ≡ rule.is_cell_count count }
 {
     count >= 1 && count <= 1_048_560
+}
+
+fn end_at(bytes: &[u8], at: u32) -> Result<(), ImageRefused>
+    ensures { result ≡ reading.end_at bytes.now at }
+{
+    if bytes.len() > at as usize {
+        Err(refused(at, ImageCause::Extra))
+    } else {
+        Ok(())
+    }
 }
 
 fn cells_of(alloc: Global, bytes: &[u8], count: u32) -> Result<Vec<Quad>, DecodeError>
