@@ -1,11 +1,9 @@
 -- The image from the parts that were read.
-use Rattle.std.proofs.Common.{◌≡◌, ℕ, ◌+◌, ◌*◌, ◌<◌, ◌≤◌, Bool, true, false, cond, ltb, List, length, Option, Some, None, Ok, Err, refl, sym, ap}
-use Rattle.std.proofs.lemmas.Bool.{lt-ltb, le-ltb}
+use Rattle.std.proofs.Common.{◌≡◌, ℕ, ◌+◌, ◌*◌, Bool, true, false, cond, List, Option, Some, None, Ok, Err, refl, ap}
 use Rattle.cap_words.specs.declared.word.Quad.{Quad}
 use Rattle.cap_words.specs.Words.{W}
 use Rattle.quad_memory.specs.Image.{RomImage, is_image, is_boot_word}
 use Rattle.uasm_image.specs.declared.error.ImageRefused.{ImageRefused}
-use Rattle.uasm_image.specs.declared.error.ImageCause.TheVariants.{Extra}
 use Rattle.uasm_image.specs.declared.error.DecodeError.{DecodeError}
 use Rattle.uasm_image.specs.declared.error.DecodeError.TheVariants.{NoMemory, Refused}
 use Rattle.uasm_image.specs.Reading.{word_at, cells_at, count_at, end_at, read, Fails}
