@@ -74,7 +74,8 @@ begins_fits bytes b =
 -- ---- the end
 
 -- the bytes end inside the number at a place
-truncated_at : (bytes front : List ℕ) (k at : ℕ) (e : ImageRefused) → at ≡ 4 * k → at ≤ length bytes → Begins (take 4 bytes) → take at bytes ≡ front → GoesOn front → Ends bytes at e → Refuses bytes e
+truncated_at : (bytes front : List ℕ) (k at : ℕ) (e : ImageRefused) → at ≡ 4 * k → at ≤ length bytes → Begins (take 4 bytes)
+    → take at bytes ≡ front → GoesOn front → Ends bytes at e → Refuses bytes e
 truncated_at bytes front k at e fourth le head same goes ends =
     let short = ends.short in
     let place : length bytes / 4 * 4 ≡ at = omega arith in
@@ -104,7 +105,8 @@ count_err bytes e fits h =
                       let whole = s.whole in
                       let four = magic_stands bytes begun.0 (omega arith) in
                       let eight : take 8 bytes ≡ magic ++ number n.0 = s.same ∙ ap (λ (f : List ℕ). f ++ number n.0) four in
-                      let none : Begins (take 8 bytes) → ⊥ = λ b. not_both _ bad.0 (count_hit b.0 n.0 b.2 b.1 s.below (b.3 ∙ ap (λ (f : List ℕ). f ++ b.2) eight)) in
+                      let none : Begins (take 8 bytes) → ⊥ = λ b. not_both _ bad.0
+                      (count_hit b.0 n.0 b.2 b.1 s.below (b.3 ∙ ap (λ (f : List ℕ). f ++ b.2) eight)) in
                       subst (λ (d : ImageRefused). Refuses bytes d) (err_is {A = ℕ} _ _ bad.1) (refused.count s.whole (rw four goes_on_magic) none)
                 ]
           ]
@@ -117,7 +119,8 @@ head_begins bytes count head = magic_begins bytes (sym (take-take 4 8 bytes (ome
 
 -- ---- words
 
-boot_err : (bytes : List ℕ) (count : ℕ) (e : ImageRefused) → IsBytes bytes → HeadFits bytes count → word_at (is_boot_word count) bytes 8 ≡ Err e → Refuses bytes e
+boot_err : (bytes : List ℕ) (count : ℕ) (e : ImageRefused) → IsBytes bytes → HeadFits bytes count → word_at (is_boot_word count) bytes 8 ≡ Err e
+    → Refuses bytes e
 boot_err bytes count e fits head h =
     let goes = goes_on_head count head.counted in
     elim (word_err (is_boot_word count) bytes 8 e fits h) [
@@ -125,15 +128,18 @@ boot_err bytes count e fits head h =
       | inr breaks ↦
           let s = breaks.stands in
           let front : take 12 bytes ≡ (magic ++ number count) ++ number breaks.n = s.same ∙ ap (λ (f : List ℕ). f ++ number breaks.n) head.same in
-          let none : Begins (take 12 bytes) → ⊥ = λ b. not_both _ breaks.broken (boot_hit b.0 count breaks.n b.2 b.1 head.below s.below (b.3 ∙ ap (λ (f : List ℕ). f ++ b.2) front)) in
+          let none : Begins (take 12 bytes) → ⊥ = λ b. not_both _ breaks.broken
+          (boot_hit b.0 count breaks.n b.2 b.1 head.below s.below (b.3 ∙ ap (λ (f : List ℕ). f ++ b.2) front)) in
           subst (λ (d : ImageRefused). Refuses bytes d) (sym breaks.why) (refused.word 0 s.whole (rw head.same goes) none)
     ]
 
-stops_err : (bytes : List ℕ) (count : ℕ) (boot : W) (e : ImageRefused) → IsBytes bytes → HeadFits bytes count → Fits (is_boot_word count) count bytes 8 boot → Stops count bytes 12 (4 * count) e → Refuses bytes e
+stops_err : (bytes : List ℕ) (count : ℕ) (boot : W) (e : ImageRefused) → IsBytes bytes → HeadFits bytes count
+    → Fits (is_boot_word count) count bytes 8 boot → Stops count bytes 12 (4 * count) e → Refuses bytes e
 stops_err bytes count boot e fits head boots s =
     let at = 12 + 4 * length s.ws in
     let front = (magic ++ number count ++ word boot) ++ flat_map word s.ws in
-    let same : take at bytes ≡ front = s.same ∙ ap (λ (f : List ℕ). f ++ flat_map word s.ws) (boots.same ∙ ap (λ (f : List ℕ). f ++ word boot) head.same) in
+    let same : take at bytes ≡ front = s.same ∙ ap (λ (f : List ℕ). f ++ flat_map word s.ws)
+    (boots.same ∙ ap (λ (f : List ℕ). f ++ word boot) head.same) in
     let goes : GoesOn front = goes_on_words count boot s.ws head.counted boots.rule_kept s.good s.within in
     elim (word_err (is_rom_word count) bytes at e fits s.stop) [
       | inl ends ↦ truncated_at bytes front (3 + length s.ws) at e (omega arith) s.reach (head_begins bytes count head) same goes ends
@@ -142,7 +148,8 @@ stops_err bytes count boot e fits head boots s =
           let k = 1 + length s.ws in
           let place : at ≡ 8 + 4 * k = omega arith in
           let more : take (at + 4) bytes ≡ front ++ number breaks.n = st.same ∙ ap (λ (f : List ℕ). f ++ number breaks.n) same in
-          let none : Begins (take (at + 4) bytes) → ⊥ = λ b. not_both _ breaks.broken (word_hit b.0 count boot s.ws breaks.n b.2 b.1 head.below st.below (b.3 ∙ ap (λ (f : List ℕ). f ++ b.2) more)) in
+          let none : Begins (take (at + 4) bytes) → ⊥ = λ b. not_both _ breaks.broken
+          (word_hit b.0 count boot s.ws breaks.n b.2 b.1 head.below st.below (b.3 ∙ ap (λ (f : List ℕ). f ++ b.2) more)) in
           let whole : 8 + 4 * k + 4 ≤ length bytes = subst (λ (p : ℕ). p + 4 ≤ length bytes) place st.whole in
           let begun : GoesOn (take (8 + 4 * k) bytes) = subst (λ (p : ℕ). GoesOn (take p bytes)) place (rw same goes) in
           let ended : Begins (take (8 + 4 * k + 4) bytes) → ⊥ = subst (λ (p : ℕ). Begins (take (p + 4) bytes) → ⊥) place none in
@@ -156,11 +163,13 @@ not_nil : (xs : List ℕ) → 0 < length xs → (b : ℕ) × (rest : List ℕ) �
 not_nil [] lt = absurd (omega arith)
 not_nil (x ∷ xs) lt = (x, xs, refl)
 
-extra_at : (bytes : List ℕ) (count : ℕ) (i : RomImage) → Fronts bytes count i → 12 + 16 * count < length bytes → IsRefusedAt bytes (12 + 16 * count) Extra
+extra_at : (bytes : List ℕ) (count : ℕ) (i : RomImage) → Fronts bytes count i → 12 + 16 * count < length bytes
+    → IsRefusedAt bytes (12 + 16 * count) Extra
 extra_at bytes count i f long =
     let n = 12 + 16 * count in
     let more = not_nil (drop n bytes) (omega (arith, length-drop n bytes)) in
-    let same : bytes ≡ spelled i ++ more.0 ∷ more.1 = sym (take-append-drop n bytes) ∙ ap (λ (r : List ℕ). take n bytes ++ r) more.2 ∙ ap (λ (r : List ℕ). r ++ more.0 ∷ more.1) (sym f.same) in
+    let same : bytes ≡ spelled i ++ more.0 ∷ more.1 = sym (take-append-drop n bytes) ∙ ap (λ (r : List ℕ). take n bytes ++ r) more.2
+    ∙ ap (λ (r : List ℕ). r ++ more.0 ∷ more.1) (sym f.same) in
     subst (λ (p : ℕ). IsRefusedAt bytes p Extra) f.len (refused.extra i f.image more.0 more.1 same)
 
 end_err : (bytes : List ℕ) (at : ℕ) (e : ImageRefused) → end_at bytes at ≡ Err e → (at < length bytes) × (e ≡ record { at = at; cause = Extra })
@@ -187,7 +196,8 @@ read_err bytes e fits h =
                       let f = fronts bytes a.0 b.0 d.0 head boots (cells_ok a.0 bytes 12 a.0 d.0 fits boots.whole d.1) in
                       elim (bind_err (end_at bytes (12 + 16 * a.0)) (λ u. Ok (record { boot = b.0; cells = d.0 })) e d.2) [
                         | inl bad ↦ let more = end_err bytes (12 + 16 * a.0) e bad in
-                            subst (λ (r : ImageRefused). Refuses bytes r) (sym more.1) (extra_at bytes a.0 (record { boot = b.0; cells = d.0 }) f more.0)
+                            subst (λ (r : ImageRefused). Refuses bytes r) (sym more.1)
+                            (extra_at bytes a.0 (record { boot = b.0; cells = d.0 }) f more.0)
                         | inr good ↦ ok_no_err _ _ good.2
                       ]
                 ]

@@ -41,11 +41,21 @@ blanks count (suc n) =
     record { cells = q ∷ b.cells; many = ap suc b.many; kept = both _ _ g.0 b.kept; exact = both _ _ g.1 b.exact }
 
 -- a first cell, and others behind it
-with_first : (count n : ℕ) (q : Quad) (ws : List W) (next : ℕ) (rest : List ℕ) → IsGood count q.t → IsGood count q.x → IsGood count q.y → IsGood count q.z → (b : Blanks count n) → cell q ++ flat_map cell b.cells ≡ flat_map word ws ++ next ∷ rest
+with_first : (count n : ℕ) (q : Quad) (ws : List W) (next : ℕ) (rest : List ℕ) → IsGood count q.t → IsGood count q.x → IsGood count q.y
+    → IsGood count q.z → (b : Blanks count n) → cell q ++ flat_map cell b.cells ≡ flat_map word ws ++ next ∷ rest
     → Fills count (suc n) ws
 with_first count n q ws next rest t x y z b same =
     let g = good_quad count q t x y z in
-    record { cells = q ∷ b.cells; many = ap suc b.many; kept = both _ _ g.0 b.kept; exact = both _ _ g.1 b.exact; next = next; rest = rest; same = same }
+    record {
+      cells = q ∷ b.cells;
+      many = ap suc b.many;
+      kept = both _ _ g.0 b.kept;
+      exact = both _ _ g.1 b.exact;
+      next = next;
+      rest =
+          rest;
+      same = same;
+    }
 
 pub fills : (count n : ℕ) (ws : List W) → AllByRecursion (IsGood count) ws → length ws < 4 * n → Fills count n ws
 fills count zero ws good lt = absurd (omega arith)
@@ -65,23 +75,35 @@ fills count (suc n) (t ∷ x ∷ y ∷ z ∷ ws) good lt =
     let q : Quad = record { t = t; x = x; y = y; z = z } in
     let f = fills count n ws good.1.1.1.1 (omega arith) in
     let g = good_quad count q good.0 good.1.0 good.1.1.0 good.1.1.1.0 in
-    record { cells = q ∷ f.cells; many = ap suc f.many; kept = both _ _ g.0 f.kept; exact = both _ _ g.1 f.exact; next = f.next; rest = f.rest; same = ap (λ (r : List ℕ). cell q ++ r) f.same }
+    record {
+      cells = q ∷ f.cells;
+      many = ap suc f.many;
+      kept = both _ _ g.0 f.kept;
+      exact = both _ _ g.1 f.exact;
+      next = f.next;
+      rest =
+          f.rest;
+      same = ap (λ (r : List ℕ). cell q ++ r) f.same;
+    }
 
 -- ---- the image of such cells
 
 -- words that were read behind a boot word, fewer than an image has, begin an image that goes on
-pub goes_on_words : (count : ℕ) (boot : W) (ws : List W) → IsTrue (is_cell_count count) → IsTrue (is_boot_word count boot) → AllByRecursion (IsGood count) ws → length ws < 4 * count
+pub goes_on_words : (count : ℕ) (boot : W) (ws : List W) → IsTrue (is_cell_count count) → IsTrue (is_boot_word count boot)
+    → AllByRecursion (IsGood count) ws → length ws < 4 * count
     → GoesOn ((magic ++ number count ++ word boot) ++ flat_map word ws)
 goes_on_words count boot ws counted booted good lt =
     let f = fills count count ws good lt in
     let i : RomImage = record { boot = boot; cells = f.cells } in
     let is : IsImage i = record {
-      rules = subst (λ (k : ℕ). IsTrue (is_cell_count k && is_boot_word k boot && list_all (is_rom_quad k) f.cells)) (sym f.many) (both _ _ (both _ _ counted booted) f.kept);
+      rules = subst (λ (k : ℕ). IsTrue (is_cell_count k && is_boot_word k boot && list_all (is_rom_quad k) f.cells)) (sym f.many)
+          (both _ _ (both _ _ counted booted) f.kept);
       exact = f.exact;
     } in
     let head = magic ++ number count ++ word boot in
     let same : spelled i ≡ (head ++ flat_map word ws) ++ f.next ∷ f.rest =
-    ap (λ (k : ℕ). magic ++ number k ++ word boot ++ flat_map cell f.cells) f.many ∙ ap (λ (r : List ℕ). head ++ r) f.same ∙ sym (append_assoc head (flat_map word ws) (f.next ∷ f.rest)) in
+    ap (λ (k : ℕ). magic ++ number k ++ word boot ++ flat_map cell f.cells) f.many ∙ ap (λ (r : List ℕ). head ++ r) f.same
+    ∙ sym (append_assoc head (flat_map word ws) (f.next ∷ f.rest)) in
     (i, is, f.next, f.rest, same)
 
 boot_word : (count : ℕ) → IsTrue (is_cell_count count) → IsTrue (is_boot_word count (Rom 16))

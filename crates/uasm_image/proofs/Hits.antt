@@ -21,7 +21,8 @@ cells_words : (qs : List Quad) → flat_map cell qs ≡ flat_map word (flat_map 
 cells_words [] = refl
 cells_words (q ∷ qs) = ap (λ (r : List ℕ). cell q ++ r) (cells_words qs)
 
-all_good : (count : ℕ) (qs : List Quad) → IsTrue (list_all (is_rom_quad count) qs) → IsTrue (list_all is_exact_quad qs) → AllByRecursion (IsGood count) (flat_map words_of qs)
+all_good : (count : ℕ) (qs : List Quad) → IsTrue (list_all (is_rom_quad count) qs) → IsTrue (list_all is_exact_quad qs)
+    → AllByRecursion (IsGood count) (flat_map words_of qs)
 all_good count [] k e = tt
 all_good count (q ∷ qs) k e =
     let g = good_words count q (both_left _ _ k) (both_left _ _ e) in
@@ -33,7 +34,8 @@ pub record HasBits (count n : ℕ) : Type 0 where
   pub good : IsGood count w
   pub same : word w ≡ number n
 
-hit : (count n : ℕ) (vs ws : List W) (rest : List ℕ) → AllByRecursion (IsGood count) vs → flat_map word vs ≡ flat_map word ws ++ (number n ++ rest) → HasBits count n
+hit : (count n : ℕ) (vs ws : List W) (rest : List ℕ) → AllByRecursion (IsGood count) vs
+    → flat_map word vs ≡ flat_map word ws ++ (number n ++ rest) → HasBits count n
 hit count n [] [] rest good e = absurd cc
 hit count n [] (w ∷ ws) rest good e = absurd cc
 hit count n (v ∷ vs) [] rest good e = record { w = v; good = good.0; same = cc }
@@ -62,14 +64,20 @@ keeps i count good lt e =
     let le : n ≤ 1048560 = count_below n counted in
     let same : n ≡ count = number_one n count (omega (arith, le)) lt e in
     subst (λ (k : ℕ). Keeps i k) same
-    (record { counted = counted; booted = both_right (is_cell_count n) _ (both_left _ _ good.rules); cells = both_right (is_cell_count n && is_boot_word n i.boot) _ good.rules })
+    (record {
+      counted = counted;
+      booted = both_right (is_cell_count n) _ (both_left _ _ good.rules);
+      cells =
+          both_right (is_cell_count n && is_boot_word n i.boot) _ good.rules;
+    })
 
 pub count_hit : (i : RomImage) (n : ℕ) (rest : List ℕ) → IsImage i → n < 2 ^ 32 → spelled i ≡ (magic ++ number n) ++ rest → IsTrue (is_cell_count n)
 count_hit i n rest good lt e =
     let same : number (length i.cells) ≡ number n = cc in
     (keeps i n good lt same).counted
 
-pub boot_hit : (i : RomImage) (count n : ℕ) (rest : List ℕ) → IsImage i → count < 2 ^ 32 → n < 2 ^ 32 → spelled i ≡ ((magic ++ number count) ++ number n) ++ rest → IsTrue (is_boot_word count (word_of n))
+pub boot_hit : (i : RomImage) (count n : ℕ) (rest : List ℕ) → IsImage i → count < 2 ^ 32 → n < 2 ^ 32
+    → spelled i ≡ ((magic ++ number count) ++ number n) ++ rest → IsTrue (is_boot_word count (word_of n))
 boot_hit i count n rest good lt below e =
     let same : number (length i.cells) ≡ number count = cc in
     let k = keeps i count good lt same in
@@ -87,5 +95,7 @@ word_hit i count boot ws n rest good lt below e =
     let same : number (length i.cells) ≡ number count = cc in
     let k = keeps i count good lt same in
     let tail : flat_map cell i.cells ≡ (flat_map word ws ++ number n) ++ rest = cc in
-    let words : flat_map word (flat_map words_of i.cells) ≡ flat_map word ws ++ (number n ++ rest) = sym (cells_words i.cells) ∙ tail ∙ append_assoc (flat_map word ws) (number n) rest in
-    word_kept count n (count_below count k.counted) below (hit count n (flat_map words_of i.cells) ws rest (all_good count i.cells k.cells good.exact) words)
+    let words : flat_map word (flat_map words_of i.cells) ≡ flat_map word ws ++ (number n ++ rest) = sym (cells_words i.cells) ∙ tail
+    ∙ append_assoc (flat_map word ws) (number n) rest in
+    word_kept count n (count_below count k.counted) below (hit count n (flat_map words_of i.cells) ws rest
+    (all_good count i.cells k.cells good.exact) words)

@@ -34,7 +34,8 @@ ends_one i j more gi gj e lt =
 
 begins_less : (bytes : List ℕ) (m n : ℕ) → m ≤ n → Begins (take n bytes) → Begins (take m bytes)
 begins_less bytes m n le b =
-    let front : take n bytes ≡ take m bytes ++ drop m (take n bytes) = sym (take-append-drop m (take n bytes)) ∙ ap (λ (f : List ℕ). f ++ drop m (take n bytes)) (take-take m n bytes le) in
+    let front : take n bytes ≡ take m bytes ++ drop m (take n bytes) = sym (take-append-drop m (take n bytes))
+    ∙ ap (λ (f : List ℕ). f ++ drop m (take n bytes)) (take-take m n bytes le) in
     (b.0, b.1, drop m (take n bytes) ++ b.2, b.3 ∙ ap (λ (f : List ℕ). f ++ b.2) front ∙ append_assoc (take m bytes) (drop m (take n bytes)) b.2)
 
 goes_less : (bytes : List ℕ) (m n : ℕ) → m ≤ n → GoesOn (take n bytes) → Begins (take m bytes)
@@ -50,13 +51,16 @@ extra_ends : (bytes more : List ℕ) (i : RomImage) (n : ℕ) → IsImage i → 
 extra_ends bytes more i n good e le g =
     let d = n - length (spelled i) in
     let place : n ≡ length (spelled i) + d = omega arith in
-    let front : take n bytes ≡ spelled i ++ take d more = ap (λ k. take k bytes) place ∙ ap (take (length (spelled i) + d)) e ∙ take-append-add (spelled i) more d in
-    let same : spelled g.0 ≡ spelled i ++ (take d more ++ g.2 ∷ g.3) = g.4 ∙ ap (λ (f : List ℕ). f ++ g.2 ∷ g.3) front ∙ append_assoc (spelled i) (take d more) (g.2 ∷ g.3) in
+    let front : take n bytes ≡ spelled i ++ take d more = ap (λ k. take k bytes) place ∙ ap (take (length (spelled i) + d)) e
+    ∙ take-append-add (spelled i) more d in
+    let same : spelled g.0 ≡ spelled i ++ (take d more ++ g.2 ∷ g.3) = g.4 ∙ ap (λ (f : List ℕ). f ++ g.2 ∷ g.3) front
+    ∙ append_assoc (spelled i) (take d more) (g.2 ∷ g.3) in
     ends_one i g.0 (take d more ++ g.2 ∷ g.3) good g.1 same (omega (arith, length-append (take d more) (g.2 ∷ g.3)))
 
 -- ---- faults of two kinds
 
-word_extra : (bytes more : List ℕ) (i : RomImage) (k : ℕ) → IsImage i → bytes ≡ spelled i ++ more → GoesOn (take (8 + 4 * k) bytes) → (Begins (take (8 + 4 * k + 4) bytes) → ⊥) → ⊥
+word_extra : (bytes more : List ℕ) (i : RomImage) (k : ℕ) → IsImage i → bytes ≡ spelled i ++ more → GoesOn (take (8 + 4 * k) bytes)
+    → (Begins (take (8 + 4 * k + 4) bytes) → ⊥) → ⊥
 word_extra bytes more i k good e g none =
     let len = spelled_len i in
     elim (cases_lt (length (spelled i)) (8 + 4 * k + 4)) [
@@ -83,7 +87,8 @@ faultless i _ _ good (refused.extra j gj b rest e) = ends_one j i (b ∷ rest) g
 word_word : (bytes : List ℕ) (j k : ℕ) → GoesOn (take (8 + 4 * k) bytes) → (Begins (take (8 + 4 * j + 4) bytes) → ⊥) → j < k → ⊥
 word_word bytes j k g none lt = none (goes_less bytes (8 + 4 * j + 4) (8 + 4 * k) (omega arith) g)
 
-one_word : (bytes : List ℕ) (j k : ℕ) → GoesOn (take (8 + 4 * j) bytes) → (Begins (take (8 + 4 * j + 4) bytes) → ⊥) → GoesOn (take (8 + 4 * k) bytes) → (Begins (take (8 + 4 * k + 4) bytes) → ⊥) → j ≡ k
+one_word : (bytes : List ℕ) (j k : ℕ) → GoesOn (take (8 + 4 * j) bytes) → (Begins (take (8 + 4 * j + 4) bytes) → ⊥)
+    → GoesOn (take (8 + 4 * k) bytes) → (Begins (take (8 + 4 * k + 4) bytes) → ⊥) → j ≡ k
 one_word bytes j k gj nj gk nk =
     elim (cases_lt j k) [
       | inl lt ↦ absurd (word_word bytes j k gk nj lt)
@@ -94,16 +99,19 @@ one_word bytes j k gj nj gk nk =
     ]
 
 -- of two images whose bytes are fronts of the same, none is longer
-no_longer : (bytes ms ns : List ℕ) (i j : RomImage) → IsImage i → IsImage j → bytes ≡ spelled i ++ ms → bytes ≡ spelled j ++ ns → length (spelled i) < length (spelled j) → ⊥
+no_longer : (bytes ms ns : List ℕ) (i j : RomImage) → IsImage i → IsImage j → bytes ≡ spelled i ++ ms → bytes ≡ spelled j ++ ns
+    → length (spelled i) < length (spelled j) → ⊥
 no_longer bytes ms ns i j gi gj ei ej lt =
     let m = length (spelled i) in
     let d = length (spelled j) - m in
     let place : length (spelled j) ≡ m + d = omega arith in
-    let whole : take (m + d) bytes ≡ spelled j = rw (← place) (ap (take (length (spelled j))) ej ∙ take_at (spelled j) ns (length (spelled j)) refl) in
+    let whole : take (m + d) bytes ≡ spelled j = rw (← place)
+    (ap (take (length (spelled j))) ej ∙ take_at (spelled j) ns (length (spelled j)) refl) in
     let front : take (m + d) bytes ≡ spelled i ++ take d ms = ap (take (m + d)) ei ∙ take-append-add (spelled i) ms d in
     ends_one i j (take d ms) gi gj (sym whole ∙ front) (omega (arith, ap length (sym whole ∙ front), length-append (spelled i) (take d ms)))
 
-one_extra : (bytes ms ns : List ℕ) (i j : RomImage) → IsImage i → IsImage j → bytes ≡ spelled i ++ ms → bytes ≡ spelled j ++ ns → length (spelled i) ≡ length (spelled j)
+one_extra : (bytes ms ns : List ℕ) (i j : RomImage) → IsImage i → IsImage j → bytes ≡ spelled i ++ ms → bytes ≡ spelled j ++ ns
+    → length (spelled i) ≡ length (spelled j)
 one_extra bytes ms ns i j gi gj ei ej =
     elim (cases_lt (length (spelled i)) (length (spelled j))) [
       | inl lt ↦ absurd (no_longer bytes ms ns i j gi gj ei ej lt)
@@ -128,11 +136,13 @@ one_fault bytes _ _ _ _ (refused.count w g n) (refused.extra i2 o2 b2 r2 e2) = a
 one_fault bytes _ _ _ _ (refused.word k w g n) (refused.magic n2) = absurd (n2 (goes_less bytes 4 (8 + 4 * k) (omega arith) g))
 one_fault bytes _ _ _ _ (refused.word k w g n) (refused.count w2 g2 n2) = absurd (n2 (goes_less bytes 8 (8 + 4 * k) (omega arith) g))
 one_fault bytes _ _ _ _ (refused.word k w g n) (refused.word k2 w2 g2 n2) = (ap (λ (k : ℕ). 8 + 4 * k) (one_word bytes k k2 g n g2 n2), refl)
-one_fault bytes _ _ _ _ (refused.word k w g n) (refused.truncated h2 g2) = absurd (n (goes_less bytes (8 + 4 * k + 4) (length bytes / 4 * 4) (omega arith) g2))
+one_fault bytes _ _ _ _ (refused.word k w g n) (refused.truncated h2 g2) =
+    absurd (n (goes_less bytes (8 + 4 * k + 4) (length bytes / 4 * 4) (omega arith) g2))
 one_fault bytes _ _ _ _ (refused.word k w g n) (refused.extra i2 o2 b2 r2 e2) = absurd (word_extra bytes (b2 ∷ r2) i2 k o2 e2 g n)
 one_fault bytes _ _ _ _ (refused.truncated h g) (refused.magic n2) = absurd (n2 h)
 one_fault bytes _ _ _ _ (refused.truncated h g) (refused.count w2 g2 n2) = absurd (n2 (goes_less bytes 8 (length bytes / 4 * 4) (omega arith) g))
-one_fault bytes _ _ _ _ (refused.truncated h g) (refused.word k2 w2 g2 n2) = absurd (n2 (goes_less bytes (8 + 4 * k2 + 4) (length bytes / 4 * 4) (omega arith) g))
+one_fault bytes _ _ _ _ (refused.truncated h g) (refused.word k2 w2 g2 n2) =
+    absurd (n2 (goes_less bytes (8 + 4 * k2 + 4) (length bytes / 4 * 4) (omega arith) g))
 one_fault bytes _ _ _ _ (refused.truncated h g) (refused.truncated h2 g2) = (refl, refl)
 one_fault bytes _ _ _ _ (refused.truncated h g) (refused.extra i2 o2 b2 r2 e2) = absurd (truncated_extra bytes (b2 ∷ r2) i2 o2 e2 g)
 one_fault bytes _ _ _ _ (refused.extra i o b r e) (refused.magic n2) = absurd (n2 (extra_begins bytes (b ∷ r) i 4 o e (omega arith)))

@@ -20,7 +20,8 @@ pub record Parts (bytes : List ℕ) (count : ℕ) (boot : W) (cells : List Quad)
 parts_image : (bytes : List ℕ) (count : ℕ) (boot : W) (cells : List Quad) → IsBytes bytes → Parts bytes count boot cells → is_image boot cells ≡ true
 parts_image bytes count boot cells fits p =
     let b = word_ok (is_boot_word count) count bytes 8 boot (boot_rom count) fits p.boot_is in
-    (fronts bytes count boot cells (count_ok bytes count fits p.count_is) b (cells_ok count bytes 12 count cells fits b.whole p.cells_are)).image.rules
+    (fronts bytes count boot cells (count_ok bytes count fits p.count_is) b
+    (cells_ok count bytes 12 count cells fits b.whole p.cells_are)).image.rules
 
 -- an image, where its rules hold
 abbrev pub where_kept : Bool → RomImage → Option RomImage
@@ -34,20 +35,26 @@ none_made : (b : Bool) (x : RomImage) → b ≡ true → None ≡ where_kept b x
 none_made true x h e = cc
 none_made false x h e = cc
 
-pub image_made : (bytes : List ℕ) (count : ℕ) (boot : W) (cells : List Quad) → IsBytes bytes → Parts bytes count boot cells → None ≡ where_kept (is_image boot cells) (record { boot = boot; cells = cells }) → ⊥
-image_made bytes count boot cells fits p e = none_made (is_image boot cells) (record { boot = boot; cells = cells }) (parts_image bytes count boot cells fits p) e
+pub image_made : (bytes : List ℕ) (count : ℕ) (boot : W) (cells : List Quad) → IsBytes bytes → Parts bytes count boot cells
+    → None ≡ where_kept (is_image boot cells) (record { boot = boot; cells = cells }) → ⊥
+image_made bytes count boot cells fits p e = none_made (is_image boot cells) (record { boot = boot; cells = cells })
+    (parts_image bytes count boot cells fits p) e
 
-pub image_read : (bytes : List ℕ) (count : ℕ) (boot : W) (cells : List Quad) (i : RomImage) (u : Unit {0}) → Parts bytes count boot cells → end_at bytes (12 + 16 * count) ≡ Ok u
+pub image_read : (bytes : List ℕ) (count : ℕ) (boot : W) (cells : List Quad) (i : RomImage) (u : Unit {0}) → Parts bytes count boot cells
+    → end_at bytes (12 + 16 * count) ≡ Ok u
     → Some i ≡ where_kept (is_image boot cells) (record { boot = boot; cells = cells }) → read bytes ≡ Ok i
 unfolding read
 image_read bytes count boot cells i u p end e =
-    rw (p.count_is, p.boot_is, p.cells_are, end) (ap (λ (j : RomImage). Ok j) (made (is_image boot cells) (record { boot = boot; cells = cells }) i e))
+    rw (p.count_is, p.boot_is, p.cells_are, end) (ap (λ (j : RomImage). Ok j)
+    (made (is_image boot cells) (record { boot = boot; cells = cells }) i e))
 
-pub end_failed : (bytes : List ℕ) (count : ℕ) (boot : W) (cells : List Quad) (why : ImageRefused) → Parts bytes count boot cells → end_at bytes (12 + 16 * count) ≡ Err why → read bytes ≡ Err why
+pub end_failed : (bytes : List ℕ) (count : ℕ) (boot : W) (cells : List Quad) (why : ImageRefused) → Parts bytes count boot cells
+    → end_at bytes (12 + 16 * count) ≡ Err why → read bytes ≡ Err why
 unfolding read
 end_failed bytes count boot cells why p end = rw (p.count_is, p.boot_is, p.cells_are, end) refl
 
-pub cells_failed : (bytes : List ℕ) (count : ℕ) (boot : W) (e : DecodeError) → count_at bytes ≡ Ok count → word_at (is_boot_word count) bytes 8 ≡ Ok boot → Fails e (cells_at count bytes 12 count) → Fails e (read bytes)
+pub cells_failed : (bytes : List ℕ) (count : ℕ) (boot : W) (e : DecodeError) → count_at bytes ≡ Ok count
+    → word_at (is_boot_word count) bytes 8 ≡ Ok boot → Fails e (cells_at count bytes 12 count) → Fails e (read bytes)
 unfolding read
 cells_failed bytes count boot NoMemory c b h = tt
 cells_failed bytes count boot (Refused why) c b h = rw (c, b, h) refl

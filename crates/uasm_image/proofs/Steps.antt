@@ -27,12 +27,14 @@ IsBytes-take n bytes h i =
     ]
 
 -- the value of a step that did not fail
-pub bind_ok : {A B : Type 0} (r : Result A ImageRefused) (f : A → Result B ImageRefused) (y : B) → (r >>= f) ≡ Ok y → (x : A) × (r ≡ Ok x) × (f x ≡ Ok y)
+pub bind_ok : {A B : Type 0} (r : Result A ImageRefused) (f : A → Result B ImageRefused) (y : B) → (r >>= f) ≡ Ok y
+    → (x : A) × (r ≡ Ok x) × (f x ≡ Ok y)
 bind_ok (Ok x) f y e = (x, refl, e)
 bind_ok (Err d) f y e = absurd cc
 
 -- a failure is that of the step, or of what follows it
-pub bind_err : {A B : Type 0} (r : Result A ImageRefused) (f : A → Result B ImageRefused) (d : ImageRefused) → (r >>= f) ≡ Err d → (r ≡ Err d) ⊎ ((x : A) × (r ≡ Ok x) × (f x ≡ Err d))
+pub bind_err : {A B : Type 0} (r : Result A ImageRefused) (f : A → Result B ImageRefused) (d : ImageRefused) → (r >>= f) ≡ Err d
+    → (r ≡ Err d) ⊎ ((x : A) × (r ≡ Ok x) × (f x ≡ Err d))
 bind_err (Ok x) f d e = inr (x, refl, e)
 bind_err (Err c) f d e = inl cc
 
@@ -120,7 +122,8 @@ pub record Breaks (rule : W → Bool) (bytes : List ℕ) (at : ℕ) (e : ImageRe
   pub broken : rule (word_of n) ≡ false
   pub why : e ≡ record { at = at; cause = Word }
 
-fits_of : (rule : W → Bool) (count : ℕ) (bytes : List ℕ) (at n : ℕ) → ((w : W) → IsTrue (rule w) → IsTrue (is_rom_word count w)) → Stands bytes at n → IsTrue (rule (word_of n)) → Fits rule count bytes at (word_of n)
+fits_of : (rule : W → Bool) (count : ℕ) (bytes : List ℕ) (at n : ℕ) → ((w : W) → IsTrue (rule w) → IsTrue (is_rom_word count w))
+    → Stands bytes at n → IsTrue (rule (word_of n)) → Fits rule count bytes at (word_of n)
 fits_of rule count bytes at n narrow s kept =
     let k : IsTrue (is_rom_word count (word_of n)) = narrow (word_of n) kept in
     record {
@@ -130,15 +133,18 @@ fits_of rule count bytes at n narrow s kept =
       same = s.same ∙ ap (λ (m : ℕ). take at bytes ++ number m) (sym (bits_back count n s.below k));
     }
 
-pub word_ok : (rule : W → Bool) (count : ℕ) (bytes : List ℕ) (at : ℕ) (w : W) → ((v : W) → IsTrue (rule v) → IsTrue (is_rom_word count v)) → IsBytes bytes → word_at rule bytes at ≡ Ok w → Fits rule count bytes at w
+pub word_ok : (rule : W → Bool) (count : ℕ) (bytes : List ℕ) (at : ℕ) (w : W) → ((v : W) → IsTrue (rule v) → IsTrue (is_rom_word count v))
+    → IsBytes bytes → word_at rule bytes at ≡ Ok w → Fits rule count bytes at w
 word_ok rule count bytes at w narrow fits e =
     let b = bind_ok (number_at bytes at) (λ n. cond (rule (word_of n)) (Ok (word_of n)) (fault at Word)) w e in
     elim (chosen (rule (word_of b.0)) (Ok (word_of b.0)) (fault at Word) (Ok w) b.2) [
-      | inl kept ↦ subst (λ (v : W). Fits rule count bytes at v) (ok_is _ _ kept.1) (fits_of rule count bytes at b.0 narrow (number_ok bytes at b.0 fits b.1) kept.0)
+      | inl kept ↦ subst (λ (v : W). Fits rule count bytes at v) (ok_is _ _ kept.1)
+          (fits_of rule count bytes at b.0 narrow (number_ok bytes at b.0 fits b.1) kept.0)
       | inr broken ↦ err_no_ok _ _ broken.1
     ]
 
-pub word_err : (rule : W → Bool) (bytes : List ℕ) (at : ℕ) (d : ImageRefused) → IsBytes bytes → word_at rule bytes at ≡ Err d → Ends bytes at d ⊎ Breaks rule bytes at d
+pub word_err : (rule : W → Bool) (bytes : List ℕ) (at : ℕ) (d : ImageRefused) → IsBytes bytes → word_at rule bytes at ≡ Err d
+    → Ends bytes at d ⊎ Breaks rule bytes at d
 word_err rule bytes at d fits e =
     elim (bind_err (number_at bytes at) (λ n. cond (rule (word_of n)) (Ok (word_of n)) (fault at Word)) d e) [
       | inl short ↦ inl (number_err bytes at d short)

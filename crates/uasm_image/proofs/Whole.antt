@@ -57,8 +57,10 @@ unfolding cell_at
 cell_ok count bytes at q fits e =
     let rule = is_rom_word count in
     let one = λ (from : ℕ) (w : W) (h : word_at rule bytes from ≡ Ok w). word_ok rule count bytes from w (λ v k. k) fits h in
-    let t = bind_ok (word_at rule bytes at) (λ t. word_at rule bytes (at + 4) >>= λ x. word_at rule bytes (at + 8) >>= λ y. word_at rule bytes (at + 12) >>= λ z. Ok (record { t = t; x = x; y = y; z = z })) q e in
-    let x = bind_ok (word_at rule bytes (at + 4)) (λ x. word_at rule bytes (at + 8) >>= λ y. word_at rule bytes (at + 12) >>= λ z. Ok (record { t = t.0; x = x; y = y; z = z })) q t.2 in
+    let t = bind_ok (word_at rule bytes at) (λ t. word_at rule bytes (at + 4) >>= λ x. word_at rule bytes (at + 8) >>= λ y. word_at rule bytes
+    (at + 12) >>= λ z. Ok (record { t = t; x = x; y = y; z = z })) q e in
+    let x = bind_ok (word_at rule bytes (at + 4)) (λ x. word_at rule bytes (at + 8) >>= λ y. word_at rule bytes (at + 12) >>= λ z. Ok
+    (record { t = t.0; x = x; y = y; z = z })) q t.2 in
     let y = bind_ok (word_at rule bytes (at + 8)) (λ y. word_at rule bytes (at + 12) >>= λ z. Ok (record { t = t.0; x = x.0; y = y; z = z })) q x.2 in
     let z = bind_ok (word_at rule bytes (at + 12)) (λ z. Ok (record { t = t.0; x = x.0; y = y.0; z = z })) q y.2 in
     let made : Quad = record { t = t.0; x = x.0; y = y.0; z = z.0 } in
@@ -67,9 +69,12 @@ cell_ok count bytes at q fits e =
 
 cell_same : (count : ℕ) (bytes : List ℕ) (at : ℕ) (q : Quad) → CellFits count bytes at q → take (at + 16) bytes ≡ take at bytes ++ cell q
 cell_same count bytes at q f =
-    let e : take (at + 16) bytes ≡ take (at + 12) bytes ++ word q.z = subst (λ (k : ℕ). take k bytes ≡ take (at + 12) bytes ++ word q.z) (omega arith) f.z.same in
-    let d : take (at + 12) bytes ≡ take (at + 8) bytes ++ word q.y = subst (λ (k : ℕ). take k bytes ≡ take (at + 8) bytes ++ word q.y) (omega arith) f.y.same in
-    let b : take (at + 8) bytes ≡ take (at + 4) bytes ++ word q.x = subst (λ (k : ℕ). take k bytes ≡ take (at + 4) bytes ++ word q.x) (omega arith) f.x.same in
+    let e : take (at + 16) bytes ≡ take (at + 12) bytes ++ word q.z =
+    subst (λ (k : ℕ). take k bytes ≡ take (at + 12) bytes ++ word q.z) (omega arith) f.z.same in
+    let d : take (at + 12) bytes ≡ take (at + 8) bytes ++ word q.y =
+    subst (λ (k : ℕ). take k bytes ≡ take (at + 8) bytes ++ word q.y) (omega arith) f.y.same in
+    let b : take (at + 8) bytes ≡ take (at + 4) bytes ++ word q.x =
+    subst (λ (k : ℕ). take k bytes ≡ take (at + 4) bytes ++ word q.x) (omega arith) f.x.same in
     rw (e, d, b, f.t.same) (simp append_assoc)
 
 -- cells that stand from a place on
@@ -80,11 +85,19 @@ pub record CellsFit (count : ℕ) (bytes : List ℕ) (at n : ℕ) (qs : List Qua
   pub same : take (at + 16 * n) bytes ≡ take at bytes ++ flat_map cell qs
   pub whole : at + 16 * n ≤ length bytes
 
-pub cells_ok : (count : ℕ) (bytes : List ℕ) (at n : ℕ) (qs : List Quad) → IsBytes bytes → at ≤ length bytes → cells_at count bytes at n ≡ Ok qs → CellsFit count bytes at n qs
+pub cells_ok : (count : ℕ) (bytes : List ℕ) (at n : ℕ) (qs : List Quad) → IsBytes bytes → at ≤ length bytes → cells_at count bytes at n ≡ Ok qs
+    → CellsFit count bytes at n qs
 unfolding cells_at
 cells_ok count bytes at zero qs fits le e =
     subst (λ (ps : List Quad). CellsFit count bytes at 0 ps) (ok_is [] qs e)
-    (record { many = refl; kept = refl; exact = refl; same = let z : at + 16 * 0 ≡ at = omega arith in rw z (sym (append-nil (take at bytes))); whole = omega arith })
+    (record {
+      many = refl;
+      kept = refl;
+      exact = refl;
+      same = let z : at + 16 * 0 ≡ at =
+          omega arith in rw z (sym (append-nil (take at bytes)));
+      whole = omega arith;
+    })
 cells_ok count bytes at (suc n) qs fits le e =
     let a = bind_ok (cell_at count bytes at) (λ q. cells_at count bytes (at + 16) n >>= λ more. Ok (q ∷ more)) qs e in
     let b = bind_ok (cells_at count bytes (at + 16) n) (λ more. Ok (a.0 ∷ more)) qs a.2 in
@@ -94,7 +107,8 @@ cells_ok count bytes at (suc n) qs fits le e =
     let good = good_quad count a.0 first.t.good first.x.good first.y.good first.z.good in
     let place : at + 16 + 16 * n ≡ at + 16 * suc n = omega arith in
     let joined : take (at + 16 * suc n) bytes ≡ take at bytes ++ flat_map cell (a.0 ∷ b.0) =
-    ap (λ k. take k bytes) (sym place) ∙ rest.same ∙ ap (λ f. f ++ flat_map cell b.0) (cell_same count bytes at a.0 first) ∙ append_assoc (take at bytes) (cell a.0) (flat_map cell b.0) in
+    ap (λ k. take k bytes) (sym place) ∙ rest.same ∙ ap (λ f. f ++ flat_map cell b.0) (cell_same count bytes at a.0 first)
+    ∙ append_assoc (take at bytes) (cell a.0) (flat_map cell b.0) in
     subst (λ (ps : List Quad). CellsFit count bytes at (suc n) ps) (ok_is (a.0 ∷ b.0) qs b.2)
     (record {
       many = ap suc rest.many;
@@ -140,7 +154,13 @@ count_ok bytes n fits e =
           elim (chosen (is_cell_count b.0) (Ok b.0) (fault 4 Count) (Ok n) b.2) [
             | inl counted ↦
                 subst (λ (m : ℕ). HeadFits bytes m) (ok_is _ _ counted.1)
-                (record { counted = counted.0; same = s.same ∙ ap (λ f. f ++ number b.0) (magic_stands bytes hit.0 (let w = s.whole in omega arith)); whole = s.whole; below = s.below })
+                (record {
+                  counted = counted.0;
+                  same = s.same ∙ ap (λ f. f ++ number b.0)
+                      (magic_stands bytes hit.0 (let w = s.whole in omega arith));
+                  whole = s.whole;
+                  below = s.below;
+                })
             | inr miss ↦ err_no_ok _ _ miss.1
           ]
       | inr miss ↦ err_no_ok _ _ miss.1
@@ -161,16 +181,19 @@ cells_len (q ∷ qs) = let h = cells_len qs in omega (arith, h)
 pub spelled_len : (i : RomImage) → length (spelled i) ≡ 12 + 16 * length i.cells
 spelled_len i = omega (arith, cells_len i.cells)
 
-pub fronts : (bytes : List ℕ) (count : ℕ) (boot : W) (cells : List Quad) → HeadFits bytes count → Fits (is_boot_word count) count bytes 8 boot → CellsFit count bytes 12 count cells
+pub fronts : (bytes : List ℕ) (count : ℕ) (boot : W) (cells : List Quad) → HeadFits bytes count → Fits (is_boot_word count) count bytes 8 boot
+    → CellsFit count bytes 12 count cells
     → Fronts bytes count (record { boot = boot; cells = cells })
 fronts bytes count boot cells head boots fit =
     let many = fit.many in
     record {
       image = record {
-        rules = subst (λ (k : ℕ). IsTrue (is_cell_count k && is_boot_word k boot && list_all (is_rom_quad k) cells)) (sym many) (both _ _ (both _ _ head.counted boots.rule_kept) fit.kept);
+        rules = subst (λ (k : ℕ). IsTrue (is_cell_count k && is_boot_word k boot && list_all (is_rom_quad k) cells)) (sym many)
+            (both _ _ (both _ _ head.counted boots.rule_kept) fit.kept);
         exact = fit.exact;
       };
-      same = ap (λ (k : ℕ). magic ++ number k ++ word boot ++ flat_map cell cells) many ∙ sym (fit.same ∙ ap (λ (f : List ℕ). f ++ flat_map cell cells) (boots.same ∙ ap (λ (f : List ℕ). f ++ word boot) head.same));
+      same = ap (λ (k : ℕ). magic ++ number k ++ word boot ++ flat_map cell cells) many
+          ∙ sym (fit.same ∙ ap (λ (f : List ℕ). f ++ flat_map cell cells) (boots.same ∙ ap (λ (f : List ℕ). f ++ word boot) head.same));
       len = spelled_len (record { boot = boot; cells = cells }) ∙ ap (λ k. 12 + 16 * k) many;
     }
 
@@ -181,10 +204,12 @@ pub record Whole (bytes : List ℕ) (i : RomImage) : Type 0 where
 
 -- what follows the count, the boot word and the cells in reading
 abbrev pub after_count : List ℕ → ℕ → Result RomImage ImageRefused
-after_count bytes count = word_at (is_boot_word count) bytes 8 >>= λ boot. cells_at count bytes 12 count >>= λ cells. end_at bytes (12 + 16 * count) >>= λ end. Ok (record { boot = boot; cells = cells })
+after_count bytes count = word_at (is_boot_word count) bytes 8 >>= λ boot. cells_at count bytes 12 count >>= λ cells. end_at bytes
+    (12 + 16 * count) >>= λ end. Ok (record { boot = boot; cells = cells })
 
 abbrev pub after_boot : List ℕ → ℕ → W → Result RomImage ImageRefused
-after_boot bytes count boot = cells_at count bytes 12 count >>= λ cells. end_at bytes (12 + 16 * count) >>= λ end. Ok (record { boot = boot; cells = cells })
+after_boot bytes count boot = cells_at count bytes 12 count >>= λ cells. end_at bytes (12 + 16 * count) >>= λ end. Ok
+    (record { boot = boot; cells = cells })
 
 abbrev pub after_cells : List ℕ → ℕ → W → List Quad → Result RomImage ImageRefused
 after_cells bytes count boot cells = end_at bytes (12 + 16 * count) >>= λ end. Ok (record { boot = boot; cells = cells })

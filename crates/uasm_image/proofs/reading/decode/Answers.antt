@@ -9,7 +9,9 @@ pub returns-clause-only : goal.returns-clause-only
 returns-clause-only c i good same = is_only c.args.bytes.now c.image_of.result i good same c.image_of.ensures
 
 pub returns-clause-refused : goal.returns-clause-refused
-returns-clause-refused c at cause is = is_refused c.args.bytes.now c.image_of.result at cause (λ i. omega (arith, c.type_inv.bytes i)) is c.image_of.ensures
+returns-clause-refused c at cause is = is_refused c.args.bytes.now c.image_of.result at cause
+    (λ i. omega (arith, c.type_inv.bytes i)) is c.image_of.ensures
 
 pub returns-clause-faulty : goal.returns-clause-faulty
-returns-clause-faulty c at cause fault = is_faulty c.args.bytes.now c.image_of.result at cause (λ i. omega (arith, c.type_inv.bytes i)) fault c.image_of.ensures
+returns-clause-faulty c at cause fault = is_faulty c.args.bytes.now c.image_of.result at cause
+    (λ i. omega (arith, c.type_inv.bytes i)) fault c.image_of.ensures

@@ -12,7 +12,8 @@ unreachable-requires c =
 pub returns : goal.returns
 returns c =
     image_read c.args.bytes.now c.in_ok-count.count c.in_ok-boot.boot c.in_ok-cells.cells.items c.in-Some.image _
-    (record { count_is = sym c.in_ok-count.ensures.value; boot_is = sym c.in_ok-boot.ensures; cells_are = c.in_ok-cells.ensures }) (sym c.in_ok-end_at.ensures) c.in-Some.ensures
+    (record { count_is = sym c.in_ok-count.ensures.value; boot_is = sym c.in_ok-boot.ensures; cells_are = c.in_ok-cells.ensures })
+    (sym c.in_ok-end_at.ensures) c.in-Some.ensures
 
 pub returns-in_err-count : goal.returns-in_err-count
 unfolding read
@@ -29,11 +30,13 @@ returns-in_err-boot c =
 pub returns-in_err-cells : goal.returns-in_err-cells
 returns-in_err-cells c =
     let p = err_from_is_err_and c.from_residual-in_err-cells.result c.from_residual-in_err-cells.ensures.1 in
-    rw (p.1, p.2) (cells_failed c.args.bytes.now c.in_ok-count.count c.in_ok-boot.boot c.in_err-cells.field-0.0 (sym c.in_ok-count.ensures.value) (sym c.in_ok-boot.ensures) c.in_err-cells.ensures)
+    rw (p.1, p.2) (cells_failed c.args.bytes.now c.in_ok-count.count c.in_ok-boot.boot c.in_err-cells.field-0.0 (sym c.in_ok-count.ensures.value)
+    (sym c.in_ok-boot.ensures) c.in_err-cells.ensures)
 
 pub returns-in_err-end_at : goal.returns-in_err-end_at
 returns-in_err-end_at c =
     let p = err_from_is_err_and c.from_residual-in_err-end_at.result c.from_residual-in_err-end_at.ensures.1 in
     rw (p.1, p.2)
     (end_failed c.args.bytes.now c.in_ok-count.count c.in_ok-boot.boot c.in_ok-cells.cells.items c.in_err-end_at.field-0.0
-    (record { count_is = sym c.in_ok-count.ensures.value; boot_is = sym c.in_ok-boot.ensures; cells_are = c.in_ok-cells.ensures }) (sym c.in_err-end_at.ensures))
+    (record { count_is = sym c.in_ok-count.ensures.value; boot_is = sym c.in_ok-boot.ensures; cells_are = c.in_ok-cells.ensures })
+    (sym c.in_err-end_at.ensures))

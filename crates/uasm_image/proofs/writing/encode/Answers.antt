@@ -12,6 +12,7 @@ loop-cell-preserved c =
     let below = subst (λ (xs : List Quad). at < length xs) same c.loop-cell-test.true in
     let item = subst (λ (xs : List Quad). c.cell-item.result ≡ get_or xs at c.cell-item.result) same c.cell-item.is in
     record {
-      written = piece_joined cell (magic ++ number (length i.cells) ++ word i.boot) i.cells at c.cell-item.result c.loop-cell.bytes.items c.push_cell.new.bytes.items below item c.loop-cell.invariant.written c.in_ok-push_cell.ensures.pushed;
+      written = piece_joined cell (magic ++ number (length i.cells) ++ word i.boot) i.cells at c.cell-item.result c.loop-cell.bytes.items
+          c.push_cell.new.bytes.items below item c.loop-cell.invariant.written c.in_ok-push_cell.ensures.pushed;
       exact = one_more is_exact_quad i.cells at c.cell-item.result below item c.loop-cell.invariant.exact c.in_ok-push_cell.ensures.exact;
     }
