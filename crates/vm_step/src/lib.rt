@@ -23,3 +23,4 @@ mod words;
 
 pub use instruction::step;
 pub use lane::{Lane, StepEnd};
+pub use reads::fetch;

@@ -45,8 +45,8 @@ impl OwnWords {
     }
 }
 
-// The operation at a code word, and the word of the next one; None where none stands there.
-pub(crate) fn fetch(quads: &Quads, code: Word) -> Option<(Op, Word)>
+/// The operation at a code word, and the word of the next one, or None where none stands there.
+pub fn fetch(quads: &Quads, code: Word) -> Option<(Op, Word)>
     ensures value { result ≡ fetched (seen quads.now.store) code }
     ensures in_row { IfSome result (λ o. IsTrue (is_op o.0)) }
 {
