@@ -152,6 +152,10 @@ fn modules(rt: HostRuntime) -> Result<(), Fail> {
     assert!(rt;
         matches!(&last.cell[3], Operand::Label(name) if name.bytes() == b"spin".as_slice())
     );
+    let (imports, exports, items) = module.into_parts();
+    assert!(rt; imports.into_vec().is_empty());
+    assert_eq!(rt; exports.into_vec().len(), 1);
+    assert_eq!(rt; items.into_vec().len(), 24);
     let mut long = Vec::from_slice(rt.alloc(), b"end commit\n")?;
     long.resize(1_048_576, b';')?;
     assert!(rt; read(rt.alloc(), &long).is_ok());
