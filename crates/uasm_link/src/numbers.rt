@@ -37,7 +37,8 @@ fn put<'a>(
     name: &'a [u8],
     number: u32,
 ) -> Result<(), AllocError>
-    ensures { OnOk result ((other : NameBytes) → number_in numbers.new other ≡ option_or (number_in numbers.old other) (if bytes_eq other name.now then Some number else None)) }
+    ensures { OnOk result ((other : NameBytes) →
+        number_in numbers.new other ≡ option_or (number_in numbers.old other) (if bytes_eq other name.now then Some number else None)) }
 {
     if !numbers.contains_key(name) {
         numbers.insert(name, number)?;
@@ -51,7 +52,8 @@ fn add_labels<'a>(
     labels: &'a [Name],
     number: u32,
 ) -> Result<(), AllocError>
-    ensures { OnOk result ((name : NameBytes) → number_in numbers.new name ≡ option_or (number_in numbers.old name) (if has_name labels.now name then Some number else None)) }
+    ensures { OnOk result ((name : NameBytes) →
+        number_in numbers.new name ≡ option_or (number_in numbers.old name) (if has_name labels.now name then Some number else None)) }
 {
     let mut rest = labels;
     while let [label, more @ ..] = rest {
@@ -87,7 +89,8 @@ fn put_export<'a>(
     name: &'a [u8],
     labels: &HashMap<&[u8], u32>,
 ) -> Result<(), AllocError>
-    ensures { OnOk result ((other : NameBytes) → number_in numbers.new other ≡ option_or (number_in numbers.old other) (if bytes_eq other name.now then number_in labels.now other else None)) }
+    ensures { OnOk result ((other : NameBytes) →
+        number_in numbers.new other ≡ option_or (number_in numbers.old other) (if bytes_eq other name.now then number_in labels.now other else None)) }
 {
     match labels.get(name) {
         Some(number) => put(numbers, name, *number),
@@ -101,7 +104,8 @@ fn add_exports<'a>(
     exports: &'a [Name],
     labels: &HashMap<&[u8], u32>,
 ) -> Result<(), AllocError>
-    ensures { OnOk result ((name : NameBytes) → number_in numbers.new name ≡ option_or (number_in numbers.old name) (if has_name exports.now name then number_in labels.now name else None)) }
+    ensures { OnOk result ((name : NameBytes) →
+        number_in numbers.new name ≡ option_or (number_in numbers.old name) (if has_name exports.now name then number_in labels.now name else None)) }
 {
     let mut rest = exports;
     while let [export, more @ ..] = rest {

@@ -53,7 +53,8 @@ is_too_long (Some limit) text = nat_lt limit (length text)
 
 -- what a text assembles to, with a limit on its length or without
 abbrev pub assembled : Option ℕ → Bytes → Result ModuleParts UasmRefused
-assembled limit text = if is_too_long limit text then Err (record { line = 1; cause = cause.TooLong }) else assembled_lines (map line_of (lines_of text))
+assembled limit text =
+    if is_too_long limit text then Err (record { line = 1; cause = cause.TooLong }) else assembled_lines (map line_of (lines_of text))
 
 -- the text assembles to the module, with a limit on its length or without
 abbrev pub Assembles : Option ℕ → Bytes → ModuleParts → Type 0

@@ -119,7 +119,8 @@ fn add_line(
     line: &Line,
     more: &[Line],
 ) -> Result<(), AllocError>
-    ensures { OnOk result (items.new.items ++ spec.items_of labels.new.items more.now ≡ items.old.items ++ spec.items_of labels.old.items (line.now ∷ more.now)) }
+    ensures { OnOk result (items.new.items ++ spec.items_of labels.new.items more.now
+        ≡ items.old.items ++ spec.items_of labels.old.items (line.now ∷ more.now)) }
 {
     match line {
         Line::Label(name) => {

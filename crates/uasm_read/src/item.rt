@@ -34,6 +34,13 @@ impl Names {
     {
         self.names.as_slice()
     }
+
+    /// The `Vec` again.
+    pub fn into_vec(self) -> Vec<Name>
+        ensures { result.items ≡ self }
+    {
+        self.names
+    }
 }
 
 /// A cell of the image, with the labels that name it. The four words are its type, its two further words and its next.
@@ -71,5 +78,12 @@ impl Items {
         ensures { result.now ≡ self.now }
     {
         self.items.as_slice()
+    }
+
+    /// The `Vec` again.
+    pub fn into_vec(self) -> Vec<Item>
+        ensures { result.items ≡ self }
+    {
+        self.items
     }
 }

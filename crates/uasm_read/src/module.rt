@@ -66,4 +66,11 @@ impl Module {
     {
         self.items.as_slice()
     }
+
+    /// The imports, the exports and the items.
+    pub fn into_parts(self) -> (Names, Names, Items)
+        ensures { result ≡ (self.imports, self.exports, self.items) }
+    {
+        (self.imports, self.exports, self.items)
+    }
 }

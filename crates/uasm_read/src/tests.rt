@@ -5,8 +5,36 @@ use std::alloc::Global;
 use std::test::Fail;
 
 // The two sponsors: `boot` starts one that runs out of cycles.
-const SPIN: &[u8] =
-    b".export boot\nboot:\n sponsor new\n push 1000\n sponsor memory\n push 50\n sponsor cycles\n dup 1\n my self\n sponsor start\n push 0\n roll -2\n push #nil\n push spin\n actor create\n roll 2\n actor post\n my state\n push ctl\n actor become\n end commit\nctl:\n msg 0\n state 1\n actor send\n end commit\nspin:\n debug\n ref spin\n";
+const SPIN: &[u8] = b".export boot
+boot:
+ sponsor new
+ push 1000
+ sponsor memory
+ push 50
+ sponsor cycles
+ dup 1
+ my self
+ sponsor start
+ push 0
+ roll -2
+ push #nil
+ push spin
+ actor create
+ roll 2
+ actor post
+ my state
+ push ctl
+ actor become
+ end commit
+ctl:
+ msg 0
+ state 1
+ actor send
+ end commit
+spin:
+ debug
+ ref spin
+";
 
 fn read(alloc: Global, text: &[u8]) -> Result<Module, ReadModuleError> {
     if text.len() < 10_000_000 {
@@ -152,6 +180,10 @@ fn modules(rt: HostRuntime) -> Result<(), Fail> {
     assert!(rt;
         matches!(&last.cell[3], Operand::Label(name) if name.bytes() == b"spin".as_slice())
     );
+    let (imports, exports, items) = module.into_parts();
+    assert!(rt; imports.into_vec().is_empty());
+    assert_eq!(rt; exports.into_vec().len(), 1);
+    assert_eq!(rt; items.into_vec().len(), 24);
     let mut long = Vec::from_slice(rt.alloc(), b"end commit\n")?;
     long.resize(1_048_576, b';')?;
     assert!(rt; read(rt.alloc(), &long).is_ok());
