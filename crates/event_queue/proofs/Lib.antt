@@ -1,0 +1,4 @@
+pub mod Ascending
+pub mod Starting
+pub mod Appending
+pub mod Waits

@@ -1,0 +1,5 @@
+mod Messages
+mod Lists
+mod Still
+mod Growth
+mod Going

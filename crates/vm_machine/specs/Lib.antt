@@ -1,0 +1,4 @@
+pub mod Messages
+pub mod Flight
+pub mod View
+pub mod Whole

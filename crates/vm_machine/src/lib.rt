@@ -1,0 +1,12 @@
+//! The machine: its parts, its boot, and one turn.
+//!
+//! `Core` boots from an image and takes turns over picks that the caller gives; `Machine` draws its picks from a seed. A turn is the written
+//! one: it dispatches the first message that can go where a lane is free, and else the event that the pick says takes one instruction. All
+//! memory is taken at boot.
+#![tactic(auto)]
+
+mod parts;
+mod ready;
+mod start;
+
+pub use std::alloc::AllocError as NoMemory;

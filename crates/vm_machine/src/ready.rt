@@ -1,0 +1,24 @@
+// Which message goes next.
+
+ghost use Rattle.std.specs.Prelude.{◌≡◌, option_map};
+ghost use Rattle.vm_turn.specs.State.{Message};
+ghost use Rattle.vm_turn.specs.Turn.{dispatchable};
+ghost use Rattle.vm_machine.specs.View.{state_of};
+ghost use Rattle.vm_machine.specs.Whole.{Whole};
+
+use crate::parts::Parts;
+
+// The number of the message that the next turn dispatches. Where a search found none, the next one waits until something happened.
+pub(crate) fn next_ready(parts: &mut Parts) -> Option<u32>
+    requires whole { Whole parts.old }
+    ensures whole { Whole parts.new }
+    ensures state { state_of parts.new ≡ state_of parts.old }
+    ensures found { result ≡ option_map (λ (m : Message). m.number) (dispatchable (state_of parts.old)) }
+{
+    if parts.stuck || parts.flight.len() >= parts.lanes as usize {
+        return None;
+    }
+    let found = parts.queue.first_ready(&parts.quads);
+    parts.stuck = found.is_none();
+    found
+}
