@@ -165,7 +165,7 @@ module _ (before after : Memory) (old new : Ledger) (l m : Lane) (c : Charge) (g
 
 -- ---- the numbers of the lanes
 
-number_is : (k l : Flying) → Some k ≡ Some l → k.number ≡ l.number
+pub number_is : (k l : Flying) → Some k ≡ Some l → k.number ≡ l.number
 number_is k l h = ap number_or h
   where
     number_or : Option Flying → ℕ

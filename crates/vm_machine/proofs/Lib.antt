@@ -3,3 +3,6 @@ mod Lists
 mod Still
 mod Growth
 mod Going
+mod Left
+mod Keeping
+mod Ends
