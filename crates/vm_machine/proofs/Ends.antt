@@ -36,8 +36,8 @@ pub unfinished-left : (given : List W) (ready : List ℕ) (ls : List Flying) (i 
     → unfinished given ready (remove ls i) ≡ without l.number (unfinished given ready ls)
 unfinished-left given ready ls i l e r d =
     kept-without (is_unfinished ready ls) (is_unfinished ready (remove ls i)) l.number 0 given
-        (λ k x. ap (λ (b : Bool). is_among k ready || b) (in_flight-removed k ls i l e (λ y. x (sym y))))
-        (rw r (in_flight-gone l.number (remove ls i) d))
+    (λ k x. ap (λ (b : Bool). is_among k ready || b) (in_flight-removed k ls i l e (λ y. x (sym y))))
+    (rw r (in_flight-gone l.number (remove ls i) d))
 
 -- lanes that are separate have other numbers
 pub separate-differs : (s : Store) (l : Lane) (ls : List Lane) → Every (Separate s l) ls → Every (Differs l.number) (flight_of s ls)

@@ -57,8 +57,8 @@ grown-still s t ws slots sponsors given ready k f g h o =
     let e = h.held.event in
     let a = h.held.actor in
     let x = effects-kept s t k.effects h.held.linked (let u = used-grown s t slots g in omega (arith, u))
-        (λ v q m y. f.events v q (λ b. o v b (own-sent s k.effects v m)) y)
-        (λ v q m y. f.actors v q (λ b. o v b (own-created s k.effects v m)) y) in
+    (λ v q m y. f.events v q (λ b. o v b (own-sent s k.effects v m)) y)
+    (λ v q m y. f.actors v q (λ b. o v b (own-created s k.effects v m)) y) in
     record {
       cells = λ w q y. ap (λ (z : Seen). cell_seen z w) g ∙ cell-grown (seen s) slots w q y;
       event = ap (λ (z : Seen). slot_seen z k.event) g ∙ slot-grown (seen s) slots k.event (EventSlot e.0 e.1 e.2) e.3 ∙ sym e.3;
@@ -88,9 +88,9 @@ pub record Went (s t : Store) (sponsors given : List W) (ready : List ℕ) (ls :
   pub apart : Pairwise (Separate t) (slice_set ls i m)
 
 module _ (before after : Memory) (old new : Ledger) (l m : Lane) (c : Charge) (g : Going) (sheet : List Account)
-         (goes : GoesOn before after old new l m c g) (stays : Stays before after old new)
-         (row_is : (lane_row (seen before.store) sheet (lane_of before.store l)).outcome ≡ Goes g)
-         (given : List W) (ready : List ℕ) where
+    (goes : GoesOn before after old new l m c g) (stays : Stays before after old new)
+    (row_is : (lane_row (seen before.store) sheet (lane_of before.store l)).outcome ≡ Goes g)
+    (given : List W) (ready : List ℕ) where
   abbrev slots : List Slot
   slots = (going-grown (seen before.store) (stack_of before.store l) g).0
 
@@ -110,11 +110,14 @@ module _ (before after : Memory) (old new : Ledger) (l m : Lane) (c : Charge) (g
       let own : own_at (seen after.store) m.event ≡ own_before = ap (λ (x : Flying). x.own) goes.lane_is in
       record {
         held = goes.held;
-        busy = (b.0, b.1,
+        busy = (
+          b.0,
+          b.1,
           ap (λ (o : Own). slot_seen (seen after.store) o.actor) own
-          ∙ ap (λ (z : Seen). slot_seen z own_before.actor) grows
-          ∙ slot-grown (seen before.store) slots own_before.actor (ActorSlot b.0 b.1 (Fix (pos l.number))) b.2
-          ∙ ap (λ (n : ℕ). Some (ActorSlot b.0 b.1 (Fix (pos n)))) (sym went-number));
+              ∙ ap (λ (z : Seen). slot_seen z own_before.actor) grows
+              ∙ slot-grown (seen before.store) slots own_before.actor (ActorSlot b.0 b.1 (Fix (pos l.number))) b.2
+              ∙ ap (λ (n : ℕ). Some (ActorSlot b.0 b.1 (Fix (pos n)))) (sym went-number),
+        );
         numbered = ap (slice_get given) went-number ∙ h.numbered ∙ ap (λ (w : W). Some w) (sym goes.event_is);
         taken = ap (λ (n : ℕ). is_among n ready) went-number ∙ h.taken;
       }
@@ -141,11 +144,11 @@ module _ (before after : Memory) (old new : Ledger) (l m : Lane) (c : Charge) (g
       record {
         numbers = λ e. p.numbers (sym went-number ∙ e);
         words = λ v a b.
-          let b' : Among v (lane_words before.store k) = subst (λ (ws : List W). Among v ws) o.words b in
-          elim (words-come v a) [
-            | inl x ↦ p.words v x b'
-            | inr x ↦ own-free before.store k.effects h.held.linked (next_quad (seen before.store)) (omega (arith, taken)) (subst (λ (w : W). Among w (lane_words before.store k)) x b')
-          ];
+            let b' : Among v (lane_words before.store k) = subst (λ (ws : List W). Among v ws) o.words b in
+            elim (words-come v a) [
+              | inl x ↦ p.words v x b'
+              | inr x ↦ own-free before.store k.effects h.held.linked (next_quad (seen before.store)) (omega (arith, taken)) (subst (λ (w : W). Among w (lane_words before.store k)) x b')
+            ];
       }
 
   pub went : (ls : List Lane) (i : ℕ) → slice_get ls i ≡ Some l → Every (Flies before.store (names old.rows) given ready) ls → Pairwise (Separate before.store) ls → Went before.store after.store (names new.rows) given ready ls i m

@@ -34,9 +34,9 @@ cells-framed s t ws f o (Cap n) q h = h
 cells-framed s t ws f o (Ram n) q h =
     let there : slice_get s.ram n ≡ Some (cell_as Ordinary q) = tagged_is Ordinary (slice_get s.ram n) q h in
     let stays : slice_get t.ram n ≡ slice_get s.ram n = f.rest n (slice_get_within s.ram n (cell_as Ordinary q) there) (λ a.
-      let k = o (Cap n) a in
-      let other : slice_get s.ram n ≡ Some (cell_as k.0 k.1) = tagged_is k.0 (slice_get s.ram n) k.1 k.2 in
-      k.3 (ap tag_of (sym other ∙ there))) in
+    let k = o (Cap n) a in
+    let other : slice_get s.ram n ≡ Some (cell_as k.0 k.1) = tagged_is k.0 (slice_get s.ram n) k.1 k.2 in
+    k.3 (ap tag_of (sym other ∙ there))) in
     ap (tagged Ordinary) stays ∙ h
   where
     tag_of : Option Cell → Tag

@@ -6,3 +6,5 @@ mod Going
 mod Left
 mod Keeping
 mod Ends
+mod Ended
+mod Failing

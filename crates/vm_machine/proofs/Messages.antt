@@ -30,8 +30,8 @@ pub kept-same : (f g : ℕ → Bool) (n : ℕ) (ws : List W) → ((k : ℕ) → 
 kept-same f g n [] h = refl
 kept-same f g n (w ∷ ws) h =
     ap₂ (λ (b : Bool) (ms : List Message). if b then record { number = n; event = w } ∷ ms else ms)
-        (h n (omega arith) (omega arith))
-        (kept-same f g (suc n) ws (λ k a b. h k (omega (arith, a)) (omega (arith, b))))
+    (h n (omega arith) (omega arith))
+    (kept-same f g (suc n) ws (λ k a b. h k (omega (arith, a)) (omega (arith, b))))
 
 -- one that says no of one number more keeps the others
 pub kept-without : (f g : ℕ → Bool) (x n : ℕ) (ws : List W) → ((k : ℕ) → (k ≡ x → ⊥) → g k ≡ f k) → g x ≡ false → kept_from g n ws ≡ without x (kept_from f n ws)
@@ -156,8 +156,8 @@ unfinished-begun given ready flight l h = kept-same (is_unfinished (without_numb
 pub unfinished-ended : (given : List W) (ready : List ℕ) (flight : List Flying) (n : ℕ) → is_in_flight n flight ≡ false → unfinished given (without_number n ready) flight ≡ without n (unfinished given ready flight)
 unfinished-ended given ready flight n h =
     kept-without (is_unfinished ready flight) (is_unfinished (without_number n ready) flight) n 0 given
-        (λ k d. ap (λ (b : Bool). b || is_in_flight k flight) (without-among n k ready d))
-        (let g : is_among n (without_number n ready) ≡ false = without-gone n ready in rw g h)
+    (λ k d. ap (λ (b : Bool). b || is_in_flight k flight) (without-among n k ready d))
+    (let g : is_among n (without_number n ready) ≡ false = without-gone n ready in rw g h)
 
 -- messages are appended
 pub unfinished-append : (given : List W) (ready : List ℕ) (flight : List Flying) (ms : List Sent)

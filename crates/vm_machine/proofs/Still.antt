@@ -33,8 +33,7 @@ items-still : (s t : Seen) (d : ℕ) (w : W) → ((v : W) (q : Quad) → cell_se
 items-still s t zero w k h = (refl, h)
 items-still s t (suc d) w k h =
     let new = k w (pair_quad h.0 h.1) h.2 in
-    let r = items-still s t d h.1 k h.3 in
-    (
+    let r = items-still s t d h.1 k h.3 in (
       ap₂ (λ (v : W) (l : List Item). record { value = v; at = w } ∷ l) (ap head_in (new ∙ sym h.2)) (ap (items_from t d) (ap tail_in new) ∙ r.0 ∙ ap (items_from s d) (sym (ap tail_in h.2))),
       (h.0, h.1, new, r.1),
     )

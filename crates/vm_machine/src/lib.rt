@@ -5,6 +5,7 @@
 //! memory is taken at boot.
 #![tactic(auto)]
 
+mod finish;
 mod parts;
 mod ready;
 mod start;
