@@ -1,14 +1,11 @@
 -- A queue after events were appended, one by one or all at once.
-use Rattle.std.proofs.Common.{◌≡◌, ℕ, zero, suc, ◌+◌, List, [], ◌∷◌, ◌++◌, length, refl, ap, sym, ◌∙◌, arith, append_assoc, length-append}
+use Rattle.std.proofs.Common.{◌≡◌, ℕ, suc, List, [], ◌∷◌, ◌++◌, length, ap, ◌∙◌, arith, append_assoc, length-append}
+use Rattle.std.proofs.lemmas.List.{append-nil}
 use Rattle.cap_words.specs.Words.{W}
 use Rattle.event_queue.specs.Pending.{Pending, numbers_from, appended}
 
-append-none : {A : Type 0} (xs : List A) → xs ++ [] ≡ xs
-append-none [] = refl
-append-none (x ∷ xs) = ap (λ l. x ∷ l) (append-none xs)
-
 pub appended-none : (q : Pending) → appended q [] ≡ q
-appended-none q = λ i. record { given = append-none q.given i; ready = append-none q.ready i; room = q.room }
+appended-none q = λ i. record { given = append-nil q.given i; ready = append-nil q.ready i; room = q.room }
 
 pub appended-more : (q : Pending) (w : W) (ws : List W) → appended (appended q (w ∷ [])) ws ≡ appended q (w ∷ ws)
 appended-more q w ws =

@@ -1,5 +1,5 @@
 -- Numbers that ascend: what lies at a place, what is left without one, and where a walk goes on.
-use Rattle.std.proofs.Common.{◌≡◌, ℕ, zero, suc, ◌+◌, ◌<◌, ◌≤◌, List, [], ◌∷◌, ◌++◌, length, get_or, Option, Some, None, Bool, true, false, nat_eq, if◌then◌else◌, refl, ap, sym, ◌∙◌, arith, ◌⊎◌, inl, inr}
+use Rattle.std.proofs.Common.{◌≡◌, ℕ, zero, suc, ◌+◌, ◌<◌, ◌≤◌, List, [], ◌∷◌, ◌++◌, length, get_or, true, false, nat_eq, refl, ap, sym, ◌∙◌, arith, ◌⊎◌, inl, inr}
 use Rattle.std.specs.Prelude.{remove, slice_get, nat_le}
 use Rattle.std.specs.List.{Contains}
 use Rattle.std.proofs.lemmas.Bool.Decides.{nat_tests}
@@ -68,8 +68,8 @@ first-at (n ∷ ns) (suc i) low before here =
 pub next-at : (low high : ℕ) (ns : List ℕ) (i n : ℕ) → IsAscending low high ns → i < length ns → get_or ns i 0 ≡ n → slice_get ns (i + 1) ≡ first_from (n + 1) ns
 next-at low high ns i n a h e =
     first-at ns (i + 1) (n + 1)
-        (λ j g k. let o = ascending-order low high ns a j i (omega arith) h in omega (arith, o))
-        (λ g. let o = ascending-rises low high ns i (i + 1) 0 a (omega arith) g in omega (arith, o))
+    (λ j g k. let o = ascending-order low high ns a j i (omega arith) h in omega (arith, o))
+    (λ g. let o = ascending-rises low high ns i (i + 1) 0 a (omega arith) g in omega (arith, o))
 
 -- a number of a list is the first one or one of the others
 pub contains-first : (n : ℕ) (ns : List ℕ) → Contains (n ∷ ns) n
@@ -85,6 +85,9 @@ contains-either k n ns c = by c.0 c.1 c.2
     by zero h e = inl (sym e)
     by (suc i) h e = inr (i, omega arith, e)
 
+pub contains-high : (low high : ℕ) (ns : List ℕ) (n : ℕ) → IsAscending low high ns → Contains ns n → n < high
+contains-high low high ns n a c = let r = ascending-at low high ns c.0 n a c.1 in omega (arith, r.1, c.2)
+
 pub contains-low : (low high : ℕ) (ns : List ℕ) (n : ℕ) → IsAscending low high ns → Contains ns n → low ≤ n
 contains-low low high ns n a c = let r = ascending-at low high ns c.0 n a c.1 in omega (arith, r.0, c.2)
 
@@ -92,4 +95,4 @@ contains-low low high ns n a c = let r = ascending-at low high ns c.0 n a c.1 in
 pub not-absent : (ns : List ℕ) (n i : ℕ) → ((k : ℕ) → k < i → get_or ns k 0 < n) → ((k : ℕ) → i ≤ k → k < length ns → n < get_or ns k 0) → Contains ns n → ⊥
 not-absent ns n i before after c =
     let e : get_or ns c.0 0 ≡ n = sym (get_or_default_zero ns c.0 n c.1) ∙ c.2 in
-    grind (arith, before c.0, after c.0 , c.1, e)
+    grind (arith, before c.0, after c.0, c.1, e)

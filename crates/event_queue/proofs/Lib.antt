@@ -2,3 +2,4 @@ pub mod Ascending
 pub mod Starting
 pub mod Appending
 pub mod Waits
+pub mod Standing

@@ -1,13 +1,14 @@
 -- What the first message that can start is.
-use Rattle.std.proofs.Common.{◌≡◌, ℕ, zero, suc, ◌+◌, ◌<◌, ◌≤◌, List, [], ◌∷◌, length, get_or, drop, Option, Some, None, Bool, true, false, if◌then◌else◌, refl, ap, sym, ◌∙◌, arith, ◌⊎◌, inl, inr, subst}
-use Rattle.std.specs.Prelude.{slice_get, IfSome, IfNone}
+use Rattle.std.proofs.Common.{◌≡◌, ℕ, suc, ◌+◌, ◌<◌, ◌≤◌, List, [], ◌∷◌, length, get_or, drop, Option, Some, None, Bool, true, false, if◌then◌else◌, refl, ap, sym, ◌∙◌, arith, inl, inr, subst}
+use Rattle.std.specs.Prelude.{IfSome, IfNone}
 use Rattle.std.specs.List.{Contains}
-use Rattle.std.proofs.lemmas.List.{drop_more}
+use Rattle.std.proofs.Math.ListN.{drop_of_length-le}
+use Rattle.std.proofs.lemmas.List.{drop_more, get_or_default}
 use Rattle.cap_words.specs.Words.{W, undef}
 use Rattle.cap_words.specs.Store.{Store}
 use Rattle.event_queue.specs.Pending.{Pending, event_of, IsAscending}
 use Rattle.event_queue.specs.Starts.{can_start, first_ready, StartsFirst, NoneStarts}
-use Rattle.event_queue.proofs.Ascending.{contains-first, contains-more, contains-either, contains-low}
+use Rattle.event_queue.proofs.Ascending.{contains-first, contains-more, contains-either, contains-low, contains-high}
 
 module _ (s : Store) (given : List W) where
   -- it is ready, it can start, and no ready one with a lower number can
@@ -42,12 +43,7 @@ module _ (s : Store) (given : List W) where
       by false t e more = elim (contains-either k m ns c) [ inl x ↦ subst (λ (i : ℕ). can_start s (event_of given i) ≡ false) (sym x) t | inr x ↦ more e x ]
 
   is_event : (n : ℕ) (w : W) → n < length given → w ≡ get_or given n w → event_of given n ≡ w
-  is_event n w l v = same_default given n undef w l ∙ sym v
-    where
-      same_default : (ws : List W) (i : ℕ) (d e : W) → i < length ws → get_or ws i d ≡ get_or ws i e
-      same_default [] i d e h = absurd (omega arith)
-      same_default (x ∷ xs) zero d e h = refl
-      same_default (x ∷ xs) (suc i) d e h = same_default xs i d e (omega arith)
+  is_event n w l v = get_or_default given n undef w l ∙ sym v
 
   -- a search goes on behind a message that cannot start, and ends at one that can
   pub search-ends : (ns : List ℕ) (i n : ℕ) (w : W) → i < length ns → n ≡ get_or ns i 0 → n < length given → w ≡ get_or given n w → can_start s w ≡ true → first_ready s given (drop i ns) ≡ Some n
@@ -63,10 +59,7 @@ module _ (s : Store) (given : List W) where
       rw (d, k) refl
 
   pub search-none : (ns : List ℕ) (i : ℕ) → length ns ≤ i → first_ready s given (drop i ns) ≡ None
-  search-none [] zero h = refl
-  search-none [] (suc i) h = refl
-  search-none (n ∷ ns) zero h = absurd (omega arith)
-  search-none (n ∷ ns) (suc i) h = search-none ns i (omega arith)
+  search-none ns i h = ap (first_ready s given) (drop_of_length-le ns h)
 
 -- what a search tells by its answer
 pub record Answers (s : Store) (q : Pending) (r : Option ℕ) : Type 0 where
@@ -74,8 +67,8 @@ pub record Answers (s : Store) (q : Pending) (r : Option ℕ) : Type 0 where
   pub first : IfSome r (λ n. StartsFirst s q n)
   pub none : IfNone r (NoneStarts s q)
 
-pub answers : (s : Store) (q : Pending) (high : ℕ) (r : Option ℕ) → IsAscending 0 high q.ready → r ≡ first_ready s q.given q.ready → Answers s q r
-answers s q high None a e = record { value = e; first = tt; none = none-starts s q.given q.ready (sym e) }
-answers s q high (Some n) a e =
+pub answers : (s : Store) (q : Pending) (high : ℕ) (r : Option ℕ) → high ≡ length q.given → IsAscending 0 high q.ready → r ≡ first_ready s q.given q.ready → Answers s q r
+answers s q high None l a e = record { value = e; first = tt; none = none-starts s q.given q.ready (sym e) }
+answers s q high (Some n) l a e =
     let k = first-starts s q.given 0 high q.ready n a (sym e) in
-    record { value = e; first = record { ready = k.0; starts = k.1; before = k.2 }; none = tt }
+    record { value = e; first = record { given = omega (arith, contains-high 0 high q.ready n a k.0, l); ready = k.0; starts = k.1; before = k.2 }; none = tt }

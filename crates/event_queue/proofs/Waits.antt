@@ -1,7 +1,7 @@
 -- The messages that ready numbers stand for, and the first of them that the written turn dispatches.
-use Rattle.std.proofs.Common.{◌≡◌, ℕ, zero, suc, ◌+◌, ◌<◌, ◌≤◌, List, [], ◌∷◌, ◌++◌, length, get_or, Option, Some, None, Bool, true, false, nat_eq, if◌then◌else◌, refl, ap, ap₂, sym, ◌∙◌, arith, subst}
-use Rattle.std.specs.Prelude.{option_map, not, ◌&&◌, map}
-use Rattle.cap_words.specs.Words.{W, same_word, undef}
+use Rattle.std.proofs.Common.{◌≡◌, ℕ, List, [], ◌∷◌, Option, Some, None, Bool, true, false, if◌then◌else◌, refl, ap, sym, ◌∙◌, subst}
+use Rattle.std.specs.Prelude.{option_map, ◌&&◌}
+use Rattle.cap_words.specs.Words.{W}
 use Rattle.cap_words.specs.Store.{Store}
 use Rattle.cap_words.specs.Seen.{Seen, seen}
 use Rattle.cap_words.specs.Frame.{Among}
@@ -13,8 +13,8 @@ use Rattle.vm_sponsor.specs.Sheets.{Belongs, sheet_of}
 use Rattle.vm_sponsor.proofs.Steps.{read-runs}
 use Rattle.vm_turn.specs.State.{Message}
 use Rattle.vm_turn.specs.Actors.{sent_at, is_idle}
-use Rattle.vm_turn.specs.Turn.{is_in_flight, can_go, first_to_go}
-use Rattle.event_queue.specs.Pending.{Pending, event_of}
+use Rattle.vm_turn.specs.Turn.{is_in_flight, first_to_go}
+use Rattle.event_queue.specs.Pending.{event_of}
 use Rattle.event_queue.specs.Starts.{runs_by, can_start, first_ready}
 use Rattle.event_queue.specs.Waiting.{message_of, messages_of, waiting, Sponsored, FirstReadyGoesFirst}
 
@@ -63,3 +63,12 @@ first-ready_goes_first s sheet flight messages q b h e =
     waiting-first (seen s) (sheet_of s sheet.rows) flight messages
     ∙ ap (first_begun (seen s) (sheet_of s sheet.rows)) e
     ∙ ready-first s sheet q.given q.ready b k
+
+-- the messages that are not in flight have sponsors where all have
+pub sponsored-waiting : (s : Seen) (ws : List W) (flight : List Lane) (ms : List Message) → Sponsored s ws ms → Sponsored s ws (waiting flight ms)
+sponsored-waiting s ws flight [] h = tt
+sponsored-waiting s ws flight (m ∷ ms) h = by (is_in_flight m.number flight) (sponsored-waiting s ws flight ms h.1)
+  where
+    by : (b : Bool) → Sponsored s ws (waiting flight ms) → Sponsored s ws (if b then waiting flight ms else m ∷ waiting flight ms)
+    by true r = r
+    by false r = (h.0, r)

@@ -1,5 +1,5 @@
 -- Which message starts next.
-use Rattle.std.specs.Prelude.{◌≡◌, ℕ, ◌<◌, Bool, true, false, not, ◌&&◌, if◌then◌else◌, List, [], ◌∷◌, Option, Some, None}
+use Rattle.std.specs.Prelude.{◌≡◌, ℕ, ◌<◌, Bool, true, false, not, ◌&&◌, if◌then◌else◌, List, [], ◌∷◌, length, Option, Some, None}
 use Rattle.std.specs.List.{Contains}
 use Rattle.cap_words.specs.Words.{W, same_word, undef}
 use Rattle.cap_words.specs.Store.{Store}
@@ -23,8 +23,9 @@ abbrev pub first_ready : Store → List W → List ℕ → Option ℕ
 first_ready s given [] = None
 first_ready s given (n ∷ ns) = if can_start s (event_of given n) then Some n else first_ready s given ns
 
--- the message is ready and can start, and no ready one with a lower number can
+-- the message has an event, is ready and can start, and no ready one with a lower number can
 pub record StartsFirst (s : Store) (q : Pending) (n : ℕ) : Type 0 where
+  pub given : n < length q.given
   pub ready : Contains q.ready n
   pub starts : can_start s (event_of q.given n) ≡ true
   pub before : (m : ℕ) → Contains q.ready m → m < n → can_start s (event_of q.given m) ≡ false

@@ -1,8 +1,8 @@
 // The queue: a row for each message, and the ready ones in order.
 
-ghost use Rattle.std.specs.Prelude.{◌≡◌, ℕ, ◌+◌, ◌<◌, None, Some, [], ◌∷◌, length, slice_get, IfOk, IfSome, IfNone};
+ghost use Rattle.std.specs.Prelude.{◌≡◌, ℕ, ◌+◌, ◌<◌, ◌≤◌, None, Some, [], ◌∷◌, length, slice_get, IfOk, IfSome, IfNone};
 ghost use Rattle.std.specs.List.{Contains};
-ghost use Rattle.event_queue.specs.Pending.{appended, without, first_from, walks_from};
+ghost use Rattle.event_queue.specs.Pending.{appended, without, first_from, walks_from, IsAscending};
 ghost use Rattle.event_queue.specs.Starts.{first_ready, StartsFirst, NoneStarts};
 
 use crate::start::can_start;
@@ -18,20 +18,22 @@ use std::marker::Model;
 #[derive(Drop)]
 pub struct Queue {
     events: Vec<Word>,
-    waiting: VecDeque<u32>,
+    ready: VecDeque<u32>,
     room: u32,
 }
 
 impl Model for Queue {
-    ghost use Rattle.std.specs.Prelude.{◌≤◌, vec_len, vec_capacity};
+    ghost use Rattle.std.specs.Prelude.{◌≤◌, ◌<◌, ◌^◌, vec_len, vec_capacity};
     ghost use Rattle.std.specs.VecDeque.{deque_len, deque_capacity};
     ghost use Rattle.event_queue.specs.Pending.{Pending, IsAscending};
 
     ghost Value = { Pending };
 
-    ghost view = { λ q. record { given = q.events.items; ready = q.waiting.items; room = q.room } };
+    ghost view = { λ q. record { given = q.events.items; ready = q.ready.items; room = q.room } };
 
-    ghost invariant = { λ q. (vec_len q.events ≤ q.room) × (deque_len q.waiting ≤ vec_len q.events) × (q.room ≤ vec_capacity q.events) × (q.room ≤ deque_capacity q.waiting) × IsAscending 0 (vec_len q.events) q.waiting.items };
+    ghost invariant = { λ q. (vec_len q.events ≤ q.room) × (deque_len q.ready ≤ vec_len q.events)
+        × (q.room ≤ vec_capacity q.events) × (q.room ≤ deque_capacity q.ready)
+        × IsAscending 0 (vec_len q.events) q.ready.items × (q.room < 2 ^ 32) };
 }
 
 impl Queue {
@@ -40,10 +42,10 @@ impl Queue {
         ensures { IfOk result (λ q. q ≡ record { given = []; ready = []; room = messages }) }
     {
         let events = Vec::with_capacity(alloc, messages as usize)?;
-        let waiting = VecDeque::with_capacity(alloc, messages as usize)?;
+        let ready = VecDeque::with_capacity(alloc, messages as usize)?;
         Ok(Queue {
             events,
-            waiting,
+            ready,
             room: messages,
         })
     }
@@ -59,7 +61,7 @@ impl Queue {
             Ok(()) => {}
             Err(_) => unreachable!(),
         }
-        match self.waiting.push_back(number) {
+        match self.ready.push_back(number) {
             Ok(()) => {}
             Err(_) => unreachable!(),
         }
@@ -67,16 +69,27 @@ impl Queue {
     }
 
     /// A message that is ready is so no more. The others keep their order.
+    ///
+    /// As many numbers move as there are ready ones before it, or after it where those are fewer.
     pub fn remove(&mut self, number: u32)
         requires { Contains self.old.ready number }
         ensures { self.new ≡ record self.old { ready = without number self.old.ready } }
     {
-        match self.waiting.binary_search(&number) {
+        match self.ready.binary_search(&number) {
             Ok(place) => {
-                let _number = self.waiting.remove(place);
+                let _number = self.ready.remove(place);
             }
             Err(_) => unreachable!(),
         }
+    }
+
+    /// How many messages were given a number.
+    pub fn given(&self) -> u32
+        ensures count { result ≡ length self.now.given }
+        ensures room { result ≤ self.now.room }
+        ensures ascending { IsAscending 0 result self.now.ready }
+    {
+        self.events.len() as u32
     }
 
     /// The event of a message, or None where the number was not given.
@@ -92,8 +105,8 @@ impl Queue {
         ensures first { IfSome result (λ n. StartsFirst quads.now.store self.now n) }
         ensures none { IfNone result (NoneStarts quads.now.store self.now) }
     {
-        for place in 0..self.waiting.len() {
-            let number = self.waiting[place];
+        for place in 0..self.ready.len() {
+            let number = self.ready[place];
             if can_start(quads, self.events[number as usize]) {
                 return Some(number);
             }
@@ -105,9 +118,10 @@ impl Queue {
     pub fn next_ready(&self, after: Option<u32>) -> Option<u32>
         ensures value { result ≡ first_from (walks_from after) self.now.ready }
         ensures begins { after ≡ None → result ≡ slice_get self.now.ready 0 }
-        ensures goes_on { (place n : ℕ) → after ≡ Some n → slice_get self.now.ready place ≡ Some n → result ≡ slice_get self.now.ready (place + 1) }
+        ensures goes_on { (place n : ℕ) → after ≡ Some n → slice_get self.now.ready place ≡ Some n →
+            result ≡ slice_get self.now.ready (place + 1) }
     {
-        self.waiting.get(self.place_after(after)).copied()
+        self.ready.get(self.place_after(after)).copied()
     }
 
     // The place in the ready numbers where a walk goes on after a number.
@@ -117,7 +131,7 @@ impl Queue {
         let Some(number) = after else {
             return 0;
         };
-        match self.waiting.binary_search(&number) {
+        match self.ready.binary_search(&number) {
             Ok(place) => place + 1,
             Err(place) => place,
         }

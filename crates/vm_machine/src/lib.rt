@@ -8,6 +8,7 @@
 mod finish;
 mod parts;
 mod ready;
+mod roll;
 mod start;
 
 pub use std::alloc::AllocError as NoMemory;

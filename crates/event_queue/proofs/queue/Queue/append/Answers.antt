@@ -1,4 +1,4 @@
-use Rattle.std.proofs.Common.{arith, ◌≡◌, ◌+◌, suc, rules, add-one}
+use Rattle.std.proofs.Common.{arith, ◌≡◌, rules, add-one}
 use Rattle.std.specs.Prelude.{vec_len}
 use Rattle.event_queue.proofs.Ascending.{ascending-push}
 use Rattle.event_queue.proofs.queue.Queue.append.Goals as goal
@@ -9,4 +9,4 @@ invariant_of-self c =
     let a = c.in-Ok.ensures in
     let b = c.in-Ok-push_back.ensures in
     let number : c.len-number.result ≡ vec_len c.self.inside.events = search rules in
-    (search (rules, arith), omega (arith, a.len, b.len, i.1), omega (arith, a.capacity), omega (arith, b.capacity), rw (b.items, a.len, number, add-one) (ascending-push 0 (vec_len c.self.inside.events) c.self.inside.waiting.items (omega arith) i.4))
+    (search (rules, arith), omega (arith, a.len, b.len, i.1), omega (arith, a.capacity), omega (arith, b.capacity), rw (b.items, a.len, number, add-one) (ascending-push 0 (vec_len c.self.inside.events) c.self.inside.ready.items (omega arith) i.4), i.5)

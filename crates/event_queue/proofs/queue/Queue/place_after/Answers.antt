@@ -1,4 +1,4 @@
-use Rattle.std.proofs.Common.{arith, ◌≡◌, ℕ, ◌+◌, ◌<◌, ◌≤◌, length, Ok, Err, Option, Some, subst, sym, ap, ◌∙◌, add-one}
+use Rattle.std.proofs.Common.{arith, ◌≡◌, ℕ, ◌+◌, Ok, Err, Option, Some, subst, sym, ap, ◌∙◌}
 use Rattle.std.specs.Prelude.{vec_len, slice_get}
 use Rattle.std.proofs.lemmas.List.Sorted.{searched}
 use Rattle.event_queue.specs.Pending.{Pending, first_from, walks_from}
@@ -13,7 +13,7 @@ seen_so q r after n place v e h =
 
 pub returns-in-Ok : goal.returns-in-Ok
 returns-in-Ok c =
-    let ns = c.self.inside.waiting.items in
+    let ns = c.self.inside.ready.items in
     let high = vec_len c.self.inside.events in
     let n = c.in-Some.number in
     let r = searched ns n (Ok c.in-Ok.place) c.in-Ok.ensures.position (ascending-order 0 high ns c.self.invariant.4) in
@@ -21,13 +21,13 @@ returns-in-Ok c =
 
 pub returns-in-Err : goal.returns-in-Err
 returns-in-Err c =
-    let ns = c.self.inside.waiting.items in
+    let ns = c.self.inside.ready.items in
     let n = c.in-Some.number in
     let place = c.in-Err.place in
     let r = searched ns n (Err place) c.in-Err.ensures.position (ascending-order 0 (vec_len c.self.inside.events) ns c.self.invariant.4) in
     let at : slice_get ns place ≡ first_from (n + 1) ns = first-at ns place (n + 1)
-        (λ j h k. let o = r.1 j h in omega (arith, o))
-        (λ h. let o = r.2 place (omega arith) h in omega (arith, o)) in
+    (λ j h k. let o = r.1 j h in omega (arith, o))
+    (λ h. let o = r.2 place (omega arith) h in omega (arith, o)) in
     seen_so _ _ c.args.after n place c.self.view_is c.in-Some.is at
 
 pub returns-in_default : goal.returns-in_default

@@ -1,5 +1,5 @@
-use Rattle.std.proofs.Common.{rules, arith, ◌≡◌, ℕ, ◌+◌, ◌<◌, length, Ok, Err, Option, Some, None, subst, sym, ap, ◌∙◌, List}
-use Rattle.std.specs.Prelude.{vec_len, OnSome, remove}
+use Rattle.std.proofs.Common.{arith, ◌≡◌, Ok, Err, Option, Some, None, subst, sym, ap, ◌∙◌}
+use Rattle.std.specs.Prelude.{vec_len, OnSome}
 use Rattle.std.specs.List.{Contains}
 use Rattle.std.proofs.lemmas.List.Sorted.{searched}
 use Rattle.event_queue.specs.Pending.{Pending, without}
@@ -17,17 +17,17 @@ invariant_of-self c =
     let taken = r.succeeds 0 c.in-Ok.ensures.bound in
     let items = on_some c.remove-number.result _ taken r.items in
     let len = on_some c.remove-number.result _ taken r.len in
-    (i.0, omega (arith, len, i.1), i.2, omega (arith, r.capacity, i.3), rw items (ascending-remove 0 (vec_len c.self.inside.events) c.self.inside.waiting.items c.in-Ok.place i.4))
+    (i.0, omega (arith, len, i.1), i.2, omega (arith, r.capacity, i.3), rw items (ascending-remove 0 (vec_len c.self.inside.events) c.self.inside.ready.items c.in-Ok.place i.4), i.5)
 
 pub unreachable-requires : goal.unreachable-requires
 unreachable-requires c =
-    let ns = c.self.inside.waiting.items in
+    let ns = c.self.inside.ready.items in
     let r = searched ns c.args.number (Err c.in-Err.field-0) c.in-Err.ensures.position (ascending-order 0 (vec_len c.self.inside.events) ns c.self.invariant.4) in
     not-absent ns c.args.number c.in-Err.field-0 r.1 r.2 (subst (λ (q : Pending). Contains q.ready c.args.number) (sym c.self.view_is) c.requires)
 
 pub returns : goal.returns
 returns c =
-    let ns = c.self.inside.waiting.items in
+    let ns = c.self.inside.ready.items in
     let n = c.args.number in
     let a = c.self.invariant.4 in
     let high = vec_len c.self.inside.events in
