@@ -6,6 +6,8 @@ use Rattle.std.proofs.Math.Utf8.{encode}
 use Rattle.cap_words.specs.declared.word.Quad.{Quad}
 use Rattle.cap_words.specs.Words.{Fix, Rom, Ram, Cap, undef, nil, actor_t, symbol_t}
 use Rattle.cap_words.specs.Seen.{Seen}
+use Rattle.quad_memory.specs.Image.{RomImage}
+use Rattle.vm_sponsor.specs.declared.amounts.Amounts.{Amounts}
 use Rattle.instr_table.specs.declared.charge.Quota.TheVariants.{Cycles}
 use Rattle.instr_table.specs.declared.op.Op.{Op}
 use Rattle.instr_table.specs.declared.op.Op.TheVariants.{Push, Dup, Roll, Msg, State, My, QuadMake, Get, ActorSend, ActorPost, ActorCreate, ActorBecome, End, SponsorNew, SponsorGrant, SponsorStart, Debug}
@@ -19,16 +21,16 @@ use Rattle.vm_turn.specs.declared.journal.Outcome.TheVariants.{Committed, Failed
 use Rattle.vm_turn.specs.declared.journal.Turn.{Turn as Answer}
 use Rattle.vm_turn.specs.declared.journal.Turn.TheVariants.{Dispatched, Stepped, Finished, Rest, Spent}
 use Rattle.vm_turn.specs.State.{State as Machine}
-use Rattle.vm_turn.specs.Boot.{Image, Grant, booted}
+use Rattle.vm_turn.specs.Boot.{booted}
 use Rattle.vm_turn.specs.Piece.{tree_to, piece}
 use Rattle.vm_turn.specs.Turn.{entry, turn}
 use Rattle.vm_turn.specs.Run.{after, run, answers, completed, picks}
 
 -- an image that begins with its first cell
-abbrev image : List Quad → Image
+abbrev image : List Quad → RomImage
 image cells = record { boot = Rom 16; cells = cells }
 
-abbrev grant : ℕ → ℕ → ℕ → Grant
+abbrev grant : ℕ → ℕ → ℕ → Amounts
 grant memory events cycles = record { memory = memory; events = events; cycles = cycles }
 
 abbrev zeros : ℕ → List ℕ
@@ -36,7 +38,7 @@ zeros n = replicate n 0
 
 -- ---- one instruction
 
-abbrev one : Image
+abbrev one : RomImage
 one = image (spelled (End (pos 1)) undef ∷ [])
 
 commits : answers (booted one (grant 10 10 10) 1) (zeros 3) ≡ Dispatched ∷ Finished (entry 0 Committed) ∷ Rest ∷ []
@@ -119,7 +121,7 @@ abbrev listing_from : ℕ → List Op → List Quad
 listing_from k [] = []
 listing_from k (op ∷ ops) = spelled op (Rom (suc k)) ∷ listing_from (suc k) ops
 
-abbrev listing : List Op → Image
+abbrev listing : List Op → RomImage
 listing ops = image (listing_from 16 ops)
 
 abbrev p : ℕ → Op
@@ -202,7 +204,7 @@ watched-is s (p ∷ ps) = once_told-is (turn s p).1 (λ u. watched (turn s p).0 
 
 -- ---- a sponsor that runs out, and its controller
 
-abbrev spin : Image
+abbrev spin : RomImage
 spin = image (
     spelled SponsorNew (Rom 17) ∷
     spelled (p 1000) (Rom 18) ∷
@@ -259,7 +261,7 @@ spin-amounts = refl
 -- ---- three lanes
 
 -- two actors are created, and each gets a number that it hands on to `println`
-abbrev two_workers : Image
+abbrev two_workers : RomImage
 two_workers = listing (
     State (pos 1) ∷ Push (Rom 29) ∷ ActorCreate ∷ p 7 ∷ Roll (pos 2) ∷ ActorSend ∷
     State (pos 1) ∷ Push (Rom 29) ∷ ActorCreate ∷ p 8 ∷ Roll (pos 2) ∷ ActorSend ∷
@@ -294,7 +296,7 @@ both_create = refl
 -- ---- a busy actor
 
 -- the first actor sends two messages to itself and then one to `println`, and takes another code
-abbrev two_to_itself : Image
+abbrev two_to_itself : RomImage
 two_to_itself = listing (
     p 1 ∷ My (pos 0) ∷ ActorSend ∷ p 2 ∷ My (pos 0) ∷ ActorSend ∷ p 3 ∷ State (pos 1) ∷ ActorSend ∷
     Push nil ∷ Push (Rom 29) ∷ ActorBecome ∷ End (pos 1) ∷ Debug ∷ End (pos 1) ∷ [])

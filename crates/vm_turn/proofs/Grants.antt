@@ -1,5 +1,5 @@
--- What a row grants is held, after the instruction was paid.
-use Rattle.std.proofs.Common.{◌≡◌, ℕ, ◌≤◌, ℤ, pos, negsuc, arith, Bool, true, false, List, length, Option, Some, None, refl, if◌then◌else◌, nat_lt}
+-- What a row grants is held, after the instruction was paid, and goes to a sponsor that is there.
+use Rattle.std.proofs.Common.{◌≡◌, ℕ, ◌≤◌, ℤ, pos, negsuc, arith, Bool, true, false, List, [], length, Option, Some, None, refl, if◌then◌else◌, nat_lt}
 use Rattle.std.specs.Ordering.{int_eq}
 use Rattle.std.proofs.lemmas.Bool.Decides.{nat_tests}
 use Rattle.cap_words.specs.Words.{W, same_word, number_of}
@@ -9,22 +9,34 @@ use Rattle.instr_table.specs.declared.op.Op.{Op}
 use Rattle.instr_table.specs.declared.op.Op.TheVariants.{Push, Dup, Drop, Pick, Roll, Depth, Pair, Part, Nth, QuadMake, QuadTake, Get, Typeq, Eq, Cmp, AluNot, Alu, If, Jump, Msg, State, My, ActorSend, ActorPost, ActorCreate, ActorAssign, ActorBecome, End, DictTest, DictPut, DictDel, DequeNew, DequeTest, DequePut, DequeTake, SponsorNew, SponsorGrant, SponsorReclaim, SponsorStart, SponsorStop, Assert, Debug}
 use Rattle.instr_table.specs.Types.{is_actor, is_sponsor, is_makeable}
 use Rattle.instr_table.specs.Lists.{item}
-use Rattle.instr_table.specs.Event.{Own, Effects, Behaviour, has_created}
+use Rattle.instr_table.specs.Event.{Own, Effects, Behaviour, has_created, Effect, Nothing, Sends, Creates, Assigns, Becomes, Sponsors, Grants, Reclaims, Starts, Stops}
 use Rattle.instr_table.specs.Sheet.{Account, runs, held, spend}
-use Rattle.instr_table.specs.Outcome.{Outcome, Goes, Faults, Commits, Row, charge}
+use Rattle.instr_table.specs.Outcome.{Outcome, Goes, Faults, Commits, Row, charge, does, faults, not_sponsor}
 use Rattle.instr_table.specs.ActorRows.{become_row}
 use Rattle.instr_table.specs.SponsorRows.{grant_of, grantable, kind_of_grant, most_sponsors}
 use Rattle.instr_table.specs.Row.{row, row_at}
-use Rattle.vm_turn.proofs.Sheets.{IsHeld}
 
-abbrev pub HeldBy : List Account → W → Outcome → Type 0
-HeldBy rows who (Goes g) = IsHeld rows who g.effect
-HeldBy rows who (Faults w) = Unit {0}
-HeldBy rows who Commits = Unit {0}
+-- what is granted is held, and goes to a sponsor
+abbrev pub IsHeld : Seen → List Account → W → Effect → Type 0
+IsHeld s rows who Nothing = Unit {0}
+IsHeld s rows who (Sends m) = Unit {0}
+IsHeld s rows who (Creates m) = Unit {0}
+IsHeld s rows who (Assigns m) = Unit {0}
+IsHeld s rows who (Becomes b) = Unit {0}
+IsHeld s rows who (Sponsors w) = Unit {0}
+IsHeld s rows who (Grants w kind n) = (n ≤ held rows who kind) × (is_sponsor s w ≡ true)
+IsHeld s rows who (Reclaims w) = Unit {0}
+IsHeld s rows who (Starts w signal) = Unit {0}
+IsHeld s rows who (Stops w) = Unit {0}
+
+abbrev pub HeldBy : Seen → List Account → W → Outcome → Type 0
+HeldBy s rows who (Goes g) = IsHeld s rows who g.effect
+HeldBy s rows who (Faults w) = Unit {0}
+HeldBy s rows who Commits = Unit {0}
 
 module _ (own : Own) (s : Seen) (sheet : List Account) (e : Effects) (vs : List W) (k : W) where
   abbrev Holds : Row → Type 0
-  Holds r = HeldBy (spend sheet own.sponsor r.charge) own.sponsor r.outcome
+  Holds r = HeldBy s (spend sheet own.sponsor r.charge) own.sponsor r.outcome
 
   either_holds : (b : Bool) (r q : Row) → Holds r → Holds q → Holds (if b then r else q)
   either_holds true r q h g = h
@@ -42,7 +54,11 @@ module _ (own : Own) (s : Seen) (sheet : List Account) (e : Effects) (vs : List 
 
   grant_holds : (o : Option ℕ) (kind : Quota) (w : W) → ((n : ℕ) → o ≡ Some n → n ≤ held (spend sheet own.sponsor (charge 0 0)) own.sponsor kind) → Holds (grant_of o kind s w k)
   grant_holds None kind w h = tt
-  grant_holds (Some n) kind w h = either_holds (is_sponsor s w) _ _ (h n refl) tt
+  grant_holds (Some n) kind w h = by (is_sponsor s w) refl
+    where
+      by : (b : Bool) → is_sponsor s w ≡ b → Holds (if b then does 1 [] [] k (Grants w kind n) else faults 0 0 not_sponsor)
+      by true e = (h n refl, e)
+      by false e = tt
 
   row-holds : (op : Op) → Holds (row own op s sheet e vs k)
   row-holds (Push v) = tt
@@ -88,6 +104,6 @@ module _ (own : Own) (s : Seen) (sheet : List Account) (e : Effects) (vs : List 
   row-holds (Assert v) = either_holds (same_word (item vs 1) v) _ _ tt tt
   row-holds Debug = tt
 
-pub row_at-holds : (own : Own) (o : Option (Op × W)) (s : Seen) (sheet : List Account) (e : Effects) (vs : List W) → HeldBy (spend sheet own.sponsor (row_at own o s sheet e vs).charge) own.sponsor (row_at own o s sheet e vs).outcome
+pub row_at-holds : (own : Own) (o : Option (Op × W)) (s : Seen) (sheet : List Account) (e : Effects) (vs : List W) → HeldBy s (spend sheet own.sponsor (row_at own o s sheet e vs).charge) own.sponsor (row_at own o s sheet e vs).outcome
 row_at-holds own None s sheet e vs = tt
 row_at-holds own (Some o) s sheet e vs = row-holds own s sheet e vs o.1 o.0

@@ -1,8 +1,13 @@
 mod Examples
+pub mod Sums
 pub mod Sheets
-pub mod Grants
 pub mod Numbers
+pub mod Grants
+pub mod Slots
+pub mod Events
+pub mod Sponsors
 pub mod Bound
-pub mod Balances
+pub mod Places
+pub mod RunsSound
 pub mod Changed
 pub mod Runs

@@ -1,39 +1,21 @@
 -- The numbers of messages and of events in flight.
 use Rattle.std.proofs.Common.{◌≡◌, ◌⊎◌, inl, inr, ℕ, zero, suc, ◌+◌, ◌≤◌, nat_eq, List, [], ◌∷◌, ◌++◌, length, Option, Some, None, Bool, true, false, if◌then◌else◌, ap, refl, sym, ◌∙◌, subst, arith}
-use Rattle.std.specs.Prelude.{map, remove, slice_get, slice_set}
+use Rattle.std.specs.Prelude.{remove, slice_get, slice_set}
+use Rattle.std.proofs.Math.Nat.{le_refl}
 use Rattle.std.proofs.lemmas.Bool.Decides.{nat_tests}
+use Rattle.cap_words.specs.Words.{W}
+use Rattle.instr_table.specs.Event.{Sent}
 use Rattle.instr_table.specs.Lane.{Lane}
+use Rattle.vm_effects.specs.Gathered.{sent_words}
 use Rattle.vm_turn.specs.State.{Message}
-use Rattle.vm_turn.specs.Turn.{is_in_flight, without}
-
--- the numbers of events in flight
-abbrev pub numbers : List Lane → List ℕ
-numbers ls = map (λ (l : Lane). l.number) ls
+use Rattle.vm_turn.specs.Turn.{is_in_flight, without, numbered_from}
+use Rattle.vm_turn.specs.Sound.{numbers, Other, Distinct, Has, HasAll, Rising, message_words}
+use Rattle.vm_turn.proofs.Sums.{Measure}
 
 -- the number of an event, where it is there
 abbrev pub number_or : Option Lane → ℕ
 number_or None = 0
 number_or (Some l) = l.number
-
--- a number is none of these
-abbrev pub Other : ℕ → List ℕ → Type 0
-Other n [] = Unit {0}
-Other n (k ∷ ks) = (k ≡ n → ⊥) × Other n ks
-
--- no two of these are the same
-abbrev pub Apart : List ℕ → Type 0
-Apart [] = Unit {0}
-Apart (k ∷ ks) = Other k ks × Apart ks
-
--- some message has that number
-abbrev pub Has : List Message → ℕ → Type 0
-Has [] n = ⊥
-Has (m ∷ ms) n = (m.number ≡ n) ⊎ Has ms n
-
--- each of these numbers is that of a message
-abbrev pub HasAll : List Message → List ℕ → Type 0
-HasAll ms [] = Unit {0}
-HasAll ms (k ∷ ks) = Has ms k × HasAll ms ks
 
 differ : (n k : ℕ) → nat_eq n k ≡ false → n ≡ k → ⊥
 differ n k h e = grind (arith, nat_tests)
@@ -84,7 +66,7 @@ all-without ms n [] other h = tt
 all-without ms n (k ∷ ks) other h = (has-without ms n k other.0 h.0, all-without ms n ks other.1 h.1)
 
 -- different numbers of messages are no more than the messages
-pub no_more : (ks : List ℕ) (ms : List Message) → Apart ks → HasAll ms ks → length ks ≤ length ms
+pub no_more : (ks : List ℕ) (ms : List Message) → Distinct ks → HasAll ms ks → length ks ≤ length ms
 no_more [] ms apart h = omega arith
 no_more (k ∷ ks) ms apart h =
     let f = fewer ms k h.0 in
@@ -106,7 +88,7 @@ other-end : (n k : ℕ) (ks : List ℕ) → Other k ks → (n ≡ k → ⊥) →
 other-end n k [] h d = (d, tt)
 other-end n k (j ∷ ks) h d = (h.0, other-end n k ks h.1 d)
 
-pub apart-end : (n : ℕ) (ks : List ℕ) → Apart ks → Other n ks → Apart (ks ++ n ∷ [])
+pub apart-end : (n : ℕ) (ks : List ℕ) → Distinct ks → Other n ks → Distinct (ks ++ n ∷ [])
 apart-end n [] apart other = (tt, tt)
 apart-end n (k ∷ ks) apart other = (other-end n k ks apart.0 (λ e. other.0 (sym e)), apart-end n ks apart.1 other.1)
 
@@ -131,7 +113,7 @@ other-removed n [] (suc i) h = tt
 other-removed n (k ∷ ls) zero h = h.1
 other-removed n (k ∷ ls) (suc i) h = (h.0, other-removed n ls i h.1)
 
-pub apart-removed : (ls : List Lane) (i : ℕ) → Apart (numbers ls) → Apart (numbers (remove ls i))
+pub apart-removed : (ls : List Lane) (i : ℕ) → Distinct (numbers ls) → Distinct (numbers (remove ls i))
 apart-removed [] zero h = tt
 apart-removed [] (suc i) h = tt
 apart-removed (k ∷ ls) zero h = h.1
@@ -143,7 +125,7 @@ not_among n [] i l h g e = cc
 not_among n (k ∷ ls) zero l h g e = h.0 (ap number_or g ∙ e)
 not_among n (k ∷ ls) (suc i) l h g e = not_among n ls i l h.1 g e
 
-pub rest-other : (ls : List Lane) (i : ℕ) (l : Lane) → slice_get ls i ≡ Some l → Apart (numbers ls) → Other l.number (numbers (remove ls i))
+pub rest-other : (ls : List Lane) (i : ℕ) (l : Lane) → slice_get ls i ≡ Some l → Distinct (numbers ls) → Other l.number (numbers (remove ls i))
 rest-other [] i l g h = cc
 rest-other (k ∷ ls) zero l g h = subst (λ (n : ℕ). Other n (numbers ls)) (ap number_or g) h.0
 rest-other (k ∷ ls) (suc i) l g h = ((λ e. not_among k.number ls i l h.0 g (sym e)), rest-other ls i l g h.1)
@@ -158,3 +140,41 @@ pub has-at : (ms : List Message) (ls : List Lane) (i : ℕ) (l : Lane) → slice
 has-at ms [] i l g h = cc
 has-at ms (k ∷ ls) zero l g h = subst (λ (n : ℕ). Has ms n) (ap number_or g) h.0
 has-at ms (k ∷ ls) (suc i) l g h = has-at ms ls i l g h.1
+
+-- ---- numbers that rise
+
+rising-lower : (m n last : ℕ) (ms : List Message) → m ≤ n → Rising n last ms → Rising m last ms
+rising-lower m n last [] h r = omega (arith, r)
+rising-lower m n last (k ∷ ms) h r = let e = r.0 in (omega (arith, e), r.1)
+
+pub rising-without : (first last : ℕ) (ms : List Message) (n : ℕ) → Rising first last ms → Rising first last (without n ms)
+rising-without first last [] n r = r
+rising-without first last (m ∷ ms) n r = by (nat_eq m.number n) (rising-without (suc m.number) last ms n r.1)
+  where
+    by : (b : Bool) → Rising (suc m.number) last (without n ms) → Rising first last (if b then without n ms else m ∷ without n ms)
+    by true h = let e = r.0 in rising-lower first (suc m.number) last (without n ms) (omega (arith, e)) h
+    by false h = (r.0, h)
+
+pub rising-append : (first middle last : ℕ) (ms xs : List Message) → Rising first middle ms → Rising middle last xs → Rising first last (ms ++ xs)
+rising-append first middle last [] xs r h = rising-lower first middle last xs r h
+rising-append first middle last (m ∷ ms) xs r h = (r.0, rising-append (suc m.number) middle last ms xs r.1 h)
+
+pub rising-numbered : (n : ℕ) (es : List Sent) → Rising n (n + length es) (numbered_from n es)
+rising-numbered n [] = omega arith
+rising-numbered n (m ∷ es) =
+    let e : n + suc (length es) ≡ suc n + length es = omega arith in
+    (le_refl n, subst (λ (last : ℕ). Rising (suc n) last (numbered_from (suc n) es)) (sym e) (rising-numbered (suc n) es))
+
+-- ---- the words of messages
+
+pub numbered-words : (n : ℕ) (es : List Sent) → message_words (numbered_from n es) ≡ sent_words es
+numbered-words n [] = refl
+numbered-words n (m ∷ es) = ap (λ (ws : List W). m.event ∷ ws) (numbered-words (suc n) es)
+
+pub without-words : (c : Measure) (n : ℕ) (ms : List Message) → c.of (message_words (without n ms)) ≤ c.of (message_words ms)
+without-words c n [] = omega arith
+without-words c n (m ∷ ms) = by (nat_eq m.number n) (without-words c n ms)
+  where
+    by : (b : Bool) → c.of (message_words (without n ms)) ≤ c.of (message_words ms) → c.of (message_words (if b then without n ms else m ∷ without n ms)) ≤ c.of (message_words (m ∷ ms))
+    by true h = let e = c.more (m.event ∷ []) (message_words ms) in omega (arith, h, e)
+    by false h = let e = c.more (m.event ∷ []) (message_words ms) in let d = c.more (m.event ∷ []) (message_words (without n ms)) in omega (arith, h, e, d)

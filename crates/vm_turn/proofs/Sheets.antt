@@ -1,443 +1,259 @@
--- What paying, passing on, starting and stopping do to a sheet's sums.
-use Rattle.std.proofs.Common.{◌≡◌, ◌⊎◌, inl, inr, ℕ, ◌+◌, ◌≤◌, List, [], ◌∷◌, ◌++◌, Option, Some, None, Bool, true, false, if◌then◌else◌, ap, refl, ◌∙◌, arith}
-use Rattle.std.proofs.Math.Nat.{le_refl}
-use Rattle.std.proofs.lemmas.Bool.Decides.{nat_tests}
+-- What paying, passing on, starting and stopping do to a sheet.
+use Rattle.std.proofs.Common.{◌≡◌, inl, inr, ℕ, ◌+◌, ◌≤◌, List, [], ◌∷◌, ◌++◌, Some, None, Bool, true, false, if◌then◌else◌, ap, refl, ◌∙◌, sym, arith}
+use Rattle.std.specs.List.{sum_by}
+use Rattle.std.proofs.lemmas.List.{append-nil}
+use Rattle.std.proofs.lemmas.List.Sums.{sum_by-cons, sum_by_push}
 use Rattle.cap_words.specs.Words.{W, same_word}
+use Rattle.cap_words.specs.Frame.{Among}
+use Rattle.cap_words.proofs.Same.{word_same}
 use Rattle.instr_table.specs.declared.charge.Charge.{Charge}
 use Rattle.instr_table.specs.declared.charge.Quota.{Quota}
 use Rattle.instr_table.specs.declared.charge.Quota.TheVariants.{Memory, Events, Cycles}
 use Rattle.instr_table.specs.Event.{Effect, Nothing, Sends, Creates, Assigns, Becomes, Sponsors, Grants, Reclaims, Starts, Stops}
-use Rattle.instr_table.specs.Sheet.{Account, Amount, with_sponsor, Stopped, Running, no_account, account, at_account, amount, at_amount, held, paid, spend, short, passes, receives, transfer, reclaim, stands_as, signal_in, start, stop, prepared, sheet_after}
-
--- ---- what is summed
-
--- the sum of a function over a list
-abbrev pub total : {A : Type 0} → (A → ℕ) → List A → ℕ
-total f [] = 0
-total f (x ∷ xs) = f x + total f xs
-
-pub total-append : {A : Type 0} (f : A → ℕ) (xs ys : List A) → total f (xs ++ ys) ≡ total f xs + total f ys
-total-append f [] ys = omega arith
-total-append f (x ∷ xs) ys = let h = total-append f xs ys in omega (arith, h)
-
-abbrev pub memory_in : Account → ℕ
-memory_in a = a.memory.spent + a.memory.held
-
-abbrev pub cycles_in : Account → ℕ
-cycles_in a = a.cycles.spent + a.cycles.held
-
-abbrev pub events_in : Account → ℕ
-events_in a = a.events.spent + a.events.held
-
-abbrev pub memory_spent : Account → ℕ
-memory_spent a = a.memory.spent
-
-abbrev pub cycles_spent : Account → ℕ
-cycles_spent a = a.cycles.spent
-
-abbrev pub events_spent : Account → ℕ
-events_spent a = a.events.spent
-
-abbrev pub count : Option W → ℕ
-count None = 0
-count (Some w) = 1
-
--- how many signals a sponsor has prepared
-abbrev pub signals : Account → ℕ
-signals a = count (signal_in a.standing)
-
--- ---- one account is changed
-
-abbrev There : List Account → W → Type 0
-There rows w = (f : Account → ℕ) (change : Account → Account) → total f (at_account w change rows) + f (account rows w) ≡ total f rows + f (change (account rows w))
-
-abbrev Absent : List Account → W → Type 0
-Absent rows w = ((change : Account → Account) → at_account w change rows ≡ rows) × (account rows w ≡ no_account w)
-
-found_at : (a : Account) (rows : List Account) (w : W) (b : Bool) → There rows w ⊎ Absent rows w → ((f : Account → ℕ) (change : Account → Account) → total f (if b then change a ∷ rows else a ∷ at_account w change rows) + f (if b then a else account rows w) ≡ total f (a ∷ rows) + f (change (if b then a else account rows w))) ⊎ (((change : Account → Account) → (if b then change a ∷ rows else a ∷ at_account w change rows) ≡ a ∷ rows) × ((if b then a else account rows w) ≡ no_account w))
-found_at a rows w true h = inl (λ f change. omega arith)
-found_at a rows w false (inl t) = inl (λ f change. let h = t f change in omega (arith, h))
-found_at a rows w false (inr n) = inr ((λ change. ap (λ (x : List Account). a ∷ x) (n.0 change)), n.1)
-
--- a sponsor has an account, or nothing is changed
-found : (rows : List Account) (w : W) → There rows w ⊎ Absent rows w
-found [] w = inr ((λ change. refl), refl)
-found (a ∷ rows) w = found_at a rows w (same_word a.sponsor w) (found rows w)
+use Rattle.instr_table.specs.Sheet.{Account, Amount, Standing, with_sponsor, Stopped, Running, no_account, account, at_account, at_amount, held, paid, spend, short, passes, receives, transfer, reclaim, stands_as, signal_in, stop, prepared, sheet_after}
+use Rattle.vm_sponsor.specs.Totals.{kept, total, IsBalanced, Each, sponsors}
+use Rattle.vm_sponsor.proofs.Plain.{Each-at_account, Each-push, sum-at_account, sum-less, sum-more, covered, spend-balanced, spend-total, sponsors-at_account, transfer-conserves, reclaim-conserves, account-balanced}
+use Rattle.vm_turn.specs.Sound.{spent_of, spent_by_all, as_list, signals_of}
+use Rattle.vm_turn.proofs.Sums.{Measure}
 
 -- ---- what a new sheet keeps
 
--- no more is spent and held; so much more is spent; and at most so many more signals are prepared
-pub record Follows (old new : List Account) (quads cycles events more : ℕ) : Type 0 where
-  pub memory_kept : total memory_in new ≤ total memory_in old
-  pub memory_more : total memory_spent old + quads ≤ total memory_spent new
-  pub cycles_kept : total cycles_in new ≤ total cycles_in old
-  pub events_kept : total events_in new ≤ total events_in old
-  pub cycles_more : total cycles_spent old + cycles ≤ total cycles_spent new
-  pub events_more : total events_spent old + events ≤ total events_spent new
-  pub signals_more : total signals new ≤ total signals old + more
+-- what an instruction of that charge takes of a kind
+abbrev pub due : Charge → Quota → ℕ
+due c Memory = c.quads
+due c Events = c.events
+due c Cycles = 1
 
-pub follows-refl : (rows : List Account) → Follows rows rows 0 0 0 0
-follows-refl rows = record { memory_kept = le_refl _; memory_more = omega arith; cycles_kept = le_refl _; events_kept = le_refl _; cycles_more = omega arith; events_more = omega arith; signals_more = omega arith }
+abbrev pub nothing_due : Quota → ℕ
+nothing_due kind = 0
 
-pub follows-then : (a b c : List Account) (p m n j q k i l : ℕ) → Follows a b p m n j → Follows b c q k i l → Follows a c (p + q) (m + k) (n + i) (j + l)
-follows-then a b c p m n j q k i l f g = record {
-  memory_kept = omega (arith, f.memory_kept, g.memory_kept);
-  memory_more = omega (arith, f.memory_more, g.memory_more);
-  cycles_kept = omega (arith, f.cycles_kept, g.cycles_kept);
-  events_kept = omega (arith, f.events_kept, g.events_kept);
-  cycles_more = omega (arith, f.cycles_more, g.cycles_more);
-  events_more = omega (arith, f.events_more, g.events_more);
-  signals_more = omega (arith, f.signals_more, g.signals_more);
+-- of each kind as much is spent and held as before, and so much more is spent; each account still adds up; no more signals are prepared
+-- than before and these; and these sponsors come after those that were there
+pub record Moves (old new : List Account) (more : Quota → ℕ) (signals makes : List W) : Type 0 where
+  pub same_total : (kind : Quota) → total kind new ≡ total kind old
+  pub balanced : Each IsBalanced old → Each IsBalanced new
+  pub spent : (kind : Quota) → spent_by_all kind new ≡ spent_by_all kind old + more kind
+  pub prepared_of : (m : Measure) → sum_by (λ (a : Account). m.of (signals_of a)) new ≤ sum_by (λ (a : Account). m.of (signals_of a)) old + m.of signals
+  pub sponsors_are : sponsors new ≡ sponsors old ++ makes
+
+pub moves-refl : (rows : List Account) → Moves rows rows nothing_due [] []
+moves-refl rows = record {
+  same_total = λ kind. refl;
+  balanced = λ e. e;
+  spent = λ kind. omega arith;
+  prepared_of = λ m. omega arith;
+  sponsors_are = sym (append-nil (sponsors rows));
 }
+
+-- the sum is at most n more where the changed account counts at most n more
+sum-at_most : (h : Account → ℕ) (w : W) (f : Account → Account) (rows : List Account) (n : ℕ) → h (f (account rows w)) ≤ h (account rows w) + n → sum_by h (at_account w f rows) ≤ sum_by h rows + n
+sum-at_most h w f [] n e = omega arith
+sum-at_most h w f (a ∷ rows) n e = by (same_word a.sponsor w) e (λ k. sum-at_most h w f rows n k)
+  where
+    by : (b : Bool) → h (f (if b then a else account rows w)) ≤ h (if b then a else account rows w) + n → (h (f (account rows w)) ≤ h (account rows w) + n → sum_by h (at_account w f rows) ≤ sum_by h rows + n) → sum_by h (if b then f a ∷ rows else a ∷ at_account w f rows) ≤ sum_by h (a ∷ rows) + n
+    by true k rest = omega (arith, sum_by-cons h (f a) rows, sum_by-cons h a rows, k)
+    by false k rest = omega (arith, sum_by-cons h a (at_account w f rows), sum_by-cons h a rows, rest k)
 
 -- ---- paying
 
--- of each kind at least what is due is held
-pub record Enough (a : Account) (c : Charge) : Type 0 where
-  pub in_memory : c.quads ≤ a.memory.held
-  pub in_cycles : 1 ≤ a.cycles.held
-  pub in_events : c.events ≤ a.events.held
-
--- a sponsor that is short of nothing
-pub enough : (a : Account) (c : Charge) → short a c ≡ None → Enough a c
-enough a c h = record { in_memory = grind (arith, nat_tests); in_cycles = grind (arith, nat_tests); in_events = grind (arith, nat_tests) }
-
-pub spend-follows : (rows : List Account) (w : W) (c : Charge) → short (account rows w) c ≡ None → Follows rows (spend rows w c) c.quads 1 c.events 0
-spend-follows rows w c h = pick (found rows w)
+-- who can pay has an account
+pub payer-there : (rows : List Account) (w : W) (c : Charge) → short (account rows w) c ≡ None → Among w (sponsors rows)
+payer-there [] w c h = let e = (covered (no_account w) c h).cycles in absurd (omega (arith, e))
+payer-there (a ∷ rows) w c h = by (same_word a.sponsor w) refl h (λ k. payer-there rows w c k)
   where
-    e : Enough (account rows w) c
-    e = enough (account rows w) c h
+    by : (b : Bool) → same_word a.sponsor w ≡ b → short (if b then a else account rows w) c ≡ None → (short (account rows w) c ≡ None → Among w (sponsors rows)) → Among w (a.sponsor ∷ sponsors rows)
+    by true e k rest = inl (sym (word_same a.sponsor w e))
+    by false e k rest = inr (rest k)
 
-    pick : There rows w ⊎ Absent rows w → Follows rows (spend rows w c) c.quads 1 c.events 0
-    pick (inl t) = record {
-      memory_kept = let s = t memory_in (paid c) in omega (arith, e.in_memory, s);
-      memory_more = let s = t memory_spent (paid c) in omega (arith, s);
-      cycles_kept = let s = t cycles_in (paid c) in omega (arith, e.in_cycles, s);
-      events_kept = let s = t events_in (paid c) in omega (arith, e.in_events, s);
-      cycles_more = let s = t cycles_spent (paid c) in omega (arith, s);
-      events_more = let s = t events_spent (paid c) in omega (arith, s);
-      signals_more = let s = t signals (paid c) in omega (arith, s);
-    }
-    pick (inr n) = let z : (account rows w).cycles.held ≡ 0 = ap (λ (a : Account). a.cycles.held) n.1 in absurd (omega (arith, e.in_cycles, z))
+paid-spent : (kind : Quota) (c : Charge) (a : Account) → spent_of kind (paid c a) ≡ spent_of kind a + due c kind
+paid-spent Memory c a = refl
+paid-spent Events c a = refl
+paid-spent Cycles c a = refl
+
+pub spend-moves : (rows : List Account) (w : W) (c : Charge) → short (account rows w) c ≡ None → Moves rows (spend rows w c) (due c) [] []
+spend-moves rows w c h = record {
+  same_total = λ kind. spend-total rows w c kind h;
+  balanced = λ e. spend-balanced rows w c h e;
+  spent = λ kind. sum-more (spent_of kind) w (paid c) rows (due c kind) (payer-there rows w c h) (paid-spent kind c (account rows w));
+  prepared_of = λ m. sum-at_most (λ (a : Account). m.of (signals_of a)) w (paid c) rows (m.of []) (omega arith);
+  sponsors_are = sponsors-at_account w (paid c) rows (λ a. refl) ∙ sym (append-nil (sponsors rows));
+}
 
 -- ---- starting and stopping
 
-pub start-follows : (rows : List Account) (w signal : W) → Follows rows (start rows w signal) 0 0 0 1
-start-follows rows w signal = pick (found rows w)
-  where
-    pick : There rows w ⊎ Absent rows w → Follows rows (start rows w signal) 0 0 0 1
-    pick (inl t) = record {
-      memory_kept = let s = t memory_in (stands_as (Running (Some signal))) in omega (arith, s);
-      memory_more = let s = t memory_spent (stands_as (Running (Some signal))) in omega (arith, s);
-      cycles_kept = let s = t cycles_in (stands_as (Running (Some signal))) in omega (arith, s);
-      events_kept = let s = t events_in (stands_as (Running (Some signal))) in omega (arith, s);
-      cycles_more = let s = t cycles_spent (stands_as (Running (Some signal))) in omega (arith, s);
-      events_more = let s = t events_spent (stands_as (Running (Some signal))) in omega (arith, s);
-      signals_more = let s = t signals (stands_as (Running (Some signal))) in omega (arith, s);
-    }
-    pick (inr n) = rw (n.0 (stands_as (Running (Some signal)))) (record { memory_kept = le_refl _; memory_more = omega arith; cycles_kept = le_refl _; events_kept = le_refl _; cycles_more = omega arith; events_more = omega arith; signals_more = omega arith })
+stands-kept : (kind : Quota) (standing : Standing) (a : Account) → kept kind (stands_as standing a) ≡ kept kind a
+stands-kept Memory standing a = refl
+stands-kept Events standing a = refl
+stands-kept Cycles standing a = refl
+
+stands-spent : (kind : Quota) (standing : Standing) (a : Account) → spent_of kind (stands_as standing a) ≡ spent_of kind a
+stands-spent Memory standing a = refl
+stands-spent Events standing a = refl
+stands-spent Cycles standing a = refl
+
+stands-balanced : (standing : Standing) (a : Account) → IsBalanced a → IsBalanced (stands_as standing a)
+stands-balanced standing a b Memory = b Memory
+stands-balanced standing a b Events = b Events
+stands-balanced standing a b Cycles = b Cycles
+
+-- a sponsor that stands so, with the signal that it then has
+pub stands-moves : (rows : List Account) (w : W) (standing : Standing) → Moves rows (at_account w (stands_as standing) rows) nothing_due (as_list (signal_in standing)) []
+stands-moves rows w standing = record {
+  same_total = λ kind. sum-at_account (kept kind) w (stands_as standing) rows (stands-kept kind standing (account rows w));
+  balanced = λ e. Each-at_account IsBalanced w (stands_as standing) rows e (stands-balanced standing (account rows w) (account-balanced rows w e));
+  spent = λ kind. let s = sum-at_account (spent_of kind) w (stands_as standing) rows (stands-spent kind standing (account rows w)) in omega (arith, s);
+  prepared_of = λ m. sum-at_most (λ (a : Account). m.of (signals_of a)) w (stands_as standing) rows (m.of (as_list (signal_in standing))) (omega arith);
+  sponsors_are = sponsors-at_account w (stands_as standing) rows (λ a. refl) ∙ sym (append-nil (sponsors rows));
+}
 
 -- a sponsor that is stopped has no signal any more
-pub record Stops_at (rows new : List Account) (w : W) : Type 0 where
-  pub follows : Follows rows new 0 0 0 0
-  pub dropped : total signals new + count (prepared rows w) ≤ total signals rows
-
-pub stop-follows : (rows : List Account) (w : W) → Stops_at rows (stop rows w) w
-stop-follows rows w = pick (found rows w)
-  where
-    pick : There rows w ⊎ Absent rows w → Stops_at rows (stop rows w) w
-    pick (inl t) = record {
-      follows = record {
-        memory_kept = let s = t memory_in (stands_as Stopped) in omega (arith, s);
-        memory_more = let s = t memory_spent (stands_as Stopped) in omega (arith, s);
-        cycles_kept = let s = t cycles_in (stands_as Stopped) in omega (arith, s);
-        events_kept = let s = t events_in (stands_as Stopped) in omega (arith, s);
-        cycles_more = let s = t cycles_spent (stands_as Stopped) in omega (arith, s);
-        events_more = let s = t events_spent (stands_as Stopped) in omega (arith, s);
-        signals_more = let s = t signals (stands_as Stopped) in omega (arith, s);
-      };
-      dropped = let s = t signals (stands_as Stopped) in omega (arith, s);
-    }
-    pick (inr n) =
-        let z : count (prepared rows w) ≡ 0 = ap (λ (a : Account). signals a) n.1 in
-        rw (n.0 (stands_as Stopped)) (record { follows = follows-refl rows; dropped = omega (arith, z) })
+pub stop-drops : (m : Measure) (rows : List Account) (w : W) → sum_by (λ (a : Account). m.of (signals_of a)) (stop rows w) + m.of (as_list (prepared rows w)) ≡ sum_by (λ (a : Account). m.of (signals_of a)) rows
+stop-drops m rows w = sum-less (λ (a : Account). m.of (signals_of a)) w (stands_as Stopped) rows (m.of (as_list (prepared rows w))) m.none (omega (arith, m.none))
 
 -- ---- passing on
 
--- n where the kind is this one
-abbrev of_cycles : Quota → ℕ → ℕ
-of_cycles Memory n = 0
-of_cycles Events n = 0
-of_cycles Cycles n = n
+amount-spent : (kind other : Quota) (change : Amount → Amount) (a : Account) → ((b : Amount) → (change b).spent ≡ b.spent) → spent_of other (at_amount kind change a) ≡ spent_of other a
+amount-spent Memory Memory change a h = h a.memory
+amount-spent Memory Events change a h = refl
+amount-spent Memory Cycles change a h = refl
+amount-spent Events Memory change a h = refl
+amount-spent Events Events change a h = h a.events
+amount-spent Events Cycles change a h = refl
+amount-spent Cycles Memory change a h = refl
+amount-spent Cycles Events change a h = refl
+amount-spent Cycles Cycles change a h = h a.cycles
 
-abbrev of_memory : Quota → ℕ → ℕ
-of_memory Memory n = n
-of_memory Events n = 0
-of_memory Cycles n = 0
+amount-signals : (kind : Quota) (change : Amount → Amount) (a : Account) → signals_of (at_amount kind change a) ≡ signals_of a
+amount-signals Memory change a = refl
+amount-signals Events change a = refl
+amount-signals Cycles change a = refl
 
-abbrev of_events : Quota → ℕ → ℕ
-of_events Memory n = 0
-of_events Events n = n
-of_events Cycles n = 0
-
--- what is left where so much is gone
-record Without (old new : List Account) (quads cycles events : ℕ) : Type 0 where
-  memory_left : total memory_in new + quads ≤ total memory_in old
-  memory_same : total memory_spent new ≡ total memory_spent old
-  cycles_left : total cycles_in new + cycles ≤ total cycles_in old
-  events_left : total events_in new + events ≤ total events_in old
-  cycles_same : total cycles_spent new ≡ total cycles_spent old
-  events_same : total events_spent new ≡ total events_spent old
-  signals_same : total signals new ≡ total signals old
-
-passes-there : (rows : List Account) (w : W) (kind : Quota) (n : ℕ) → n ≤ held rows w kind → There rows w → Without rows (at_account w (at_amount kind (passes n)) rows) (of_memory kind n) (of_cycles kind n) (of_events kind n)
-passes-there rows w Memory n h t =
-    let p = t memory_in (at_amount Memory (passes n)) in
-    let q = t memory_spent (at_amount Memory (passes n)) in
-    let a = t cycles_in (at_amount Memory (passes n)) in let b = t events_in (at_amount Memory (passes n)) in let c = t cycles_spent (at_amount Memory (passes n)) in let d = t events_spent (at_amount Memory (passes n)) in let e = t signals (at_amount Memory (passes n)) in
-    record {
-      memory_left = omega (arith, p, h);
-      memory_same = omega (arith, q);
-      cycles_left = omega (arith, a);
-      events_left = omega (arith, b);
-      cycles_same = omega (arith, c);
-      events_same = omega (arith, d);
-      signals_same = omega (arith, e);
-    }
-passes-there rows w Events n h t =
-    let p = t memory_in (at_amount Events (passes n)) in
-    let q = t memory_spent (at_amount Events (passes n)) in
-    let a = t cycles_in (at_amount Events (passes n)) in let b = t events_in (at_amount Events (passes n)) in let c = t cycles_spent (at_amount Events (passes n)) in let d = t events_spent (at_amount Events (passes n)) in let e = t signals (at_amount Events (passes n)) in
-    record {
-      memory_left = omega (arith, p, h);
-      memory_same = omega (arith, q);
-      cycles_left = omega (arith, a);
-      events_left = omega (arith, b, h);
-      cycles_same = omega (arith, c);
-      events_same = omega (arith, d);
-      signals_same = omega (arith, e);
-    }
-passes-there rows w Cycles n h t =
-    let p = t memory_in (at_amount Cycles (passes n)) in
-    let q = t memory_spent (at_amount Cycles (passes n)) in
-    let a = t cycles_in (at_amount Cycles (passes n)) in let b = t events_in (at_amount Cycles (passes n)) in let c = t cycles_spent (at_amount Cycles (passes n)) in let d = t events_spent (at_amount Cycles (passes n)) in let e = t signals (at_amount Cycles (passes n)) in
-    record {
-      memory_left = omega (arith, p, h);
-      memory_same = omega (arith, q);
-      cycles_left = omega (arith, a, h);
-      events_left = omega (arith, b);
-      cycles_same = omega (arith, c);
-      events_same = omega (arith, d);
-      signals_same = omega (arith, e);
-    }
-
-held-none : (kind : Quota) (w : W) → (amount kind (no_account w)).held ≡ 0
-held-none Memory w = refl
-held-none Events w = refl
-held-none Cycles w = refl
-
-of_cycles-under : (kind : Quota) (n : ℕ) → of_cycles kind n ≤ n
-of_cycles-under Memory n = omega arith
-of_cycles-under Events n = omega arith
-of_cycles-under Cycles n = le_refl n
-
-of_memory-under : (kind : Quota) (n : ℕ) → of_memory kind n ≤ n
-of_memory-under Memory n = le_refl n
-of_memory-under Events n = omega arith
-of_memory-under Cycles n = omega arith
-
-of_events-under : (kind : Quota) (n : ℕ) → of_events kind n ≤ n
-of_events-under Memory n = omega arith
-of_events-under Events n = le_refl n
-of_events-under Cycles n = omega arith
-
-passes-without : (rows : List Account) (w : W) (kind : Quota) (n : ℕ) → n ≤ held rows w kind → Without rows (at_account w (at_amount kind (passes n)) rows) (of_memory kind n) (of_cycles kind n) (of_events kind n)
-passes-without rows w kind n h = pick (found rows w)
+-- what a transfer leaves of each account it leaves of the sum
+transfer-sum : (h : Account → ℕ) (rows : List Account) (from to : W) (kind : Quota) (n : ℕ) → ((a : Account) → h (at_amount kind (passes n) a) ≡ h a) → ((a : Account) → h (at_amount kind (receives n) a) ≡ h a) → sum_by h (transfer rows from to kind n) ≡ sum_by h rows
+transfer-sum h rows from to kind n p r = by (same_word from to)
   where
-    pick : There rows w ⊎ Absent rows w → Without rows (at_account w (at_amount kind (passes n)) rows) (of_memory kind n) (of_cycles kind n) (of_events kind n)
-    pick (inl t) = passes-there rows w kind n h t
-    pick (inr z) =
-        let e : held rows w kind ≡ (amount kind (no_account w)).held = ap (λ (a : Account). (amount kind a).held) z.1 in
-        let k = held-none kind w in
-        let c = of_cycles-under kind n in
-        let d = of_events-under kind n in
-        let g = of_memory-under kind n in
-        rw (z.0 (at_amount kind (passes n))) (record { memory_left = omega (arith, h, e, k, g); memory_same = refl; cycles_left = omega (arith, h, e, k, c); events_left = omega (arith, h, e, k, d); cycles_same = refl; events_same = refl; signals_same = refl })
+    given : List Account
+    given = at_account from (at_amount kind (passes n)) rows
 
--- what may be gained where so much comes
-record With (old new : List Account) (quads cycles events : ℕ) : Type 0 where
-  memory_got : total memory_in new ≤ total memory_in old + quads
-  memory_same : total memory_spent new ≡ total memory_spent old
-  cycles_got : total cycles_in new ≤ total cycles_in old + cycles
-  events_got : total events_in new ≤ total events_in old + events
-  cycles_same : total cycles_spent new ≡ total cycles_spent old
-  events_same : total events_spent new ≡ total events_spent old
-  signals_same : total signals new ≡ total signals old
+    by : (b : Bool) → sum_by h (if b then rows else at_account to (at_amount kind (receives n)) given) ≡ sum_by h rows
+    by true = refl
+    by false = sum-at_account h to (at_amount kind (receives n)) given (r (account given to)) ∙ sum-at_account h from (at_amount kind (passes n)) rows (p (account rows from))
 
-receives-there : (rows : List Account) (w : W) (kind : Quota) (n : ℕ) → There rows w → With rows (at_account w (at_amount kind (receives n)) rows) (of_memory kind n) (of_cycles kind n) (of_events kind n)
-receives-there rows w Memory n t =
-    let p = t memory_in (at_amount Memory (receives n)) in
-    let q = t memory_spent (at_amount Memory (receives n)) in
-    let a = t cycles_in (at_amount Memory (receives n)) in let b = t events_in (at_amount Memory (receives n)) in let c = t cycles_spent (at_amount Memory (receives n)) in let d = t events_spent (at_amount Memory (receives n)) in let e = t signals (at_amount Memory (receives n)) in
+transfer-spent : (rows : List Account) (from to : W) (kind other : Quota) (n : ℕ) → spent_by_all other (transfer rows from to kind n) ≡ spent_by_all other rows
+transfer-spent rows from to kind other n = transfer-sum (spent_of other) rows from to kind n (λ a. amount-spent kind other (passes n) a (λ b. refl)) (λ a. amount-spent kind other (receives n) a (λ b. refl))
+
+transfer-signals : (m : Measure) (rows : List Account) (from to : W) (kind : Quota) (n : ℕ) → sum_by (λ (a : Account). m.of (signals_of a)) (transfer rows from to kind n) ≡ sum_by (λ (a : Account). m.of (signals_of a)) rows
+transfer-signals m rows from to kind n = transfer-sum (λ (a : Account). m.of (signals_of a)) rows from to kind n (λ a. ap m.of (amount-signals kind (passes n) a)) (λ a. ap m.of (amount-signals kind (receives n) a))
+
+pub transfer-moves : (rows : List Account) (from to : W) (kind : Quota) (n : ℕ) → Among to (sponsors rows) → n ≤ held rows from kind → Moves rows (transfer rows from to kind n) nothing_due [] []
+transfer-moves rows from to kind n i h =
+    let c = transfer-conserves rows from to kind n i h in
     record {
-      memory_got = omega (arith, p);
-      memory_same = omega (arith, q);
-      cycles_got = omega (arith, a);
-      events_got = omega (arith, b);
-      cycles_same = omega (arith, c);
-      events_same = omega (arith, d);
-      signals_same = omega (arith, e);
-    }
-receives-there rows w Events n t =
-    let p = t memory_in (at_amount Events (receives n)) in
-    let q = t memory_spent (at_amount Events (receives n)) in
-    let a = t cycles_in (at_amount Events (receives n)) in let b = t events_in (at_amount Events (receives n)) in let c = t cycles_spent (at_amount Events (receives n)) in let d = t events_spent (at_amount Events (receives n)) in let e = t signals (at_amount Events (receives n)) in
-    record {
-      memory_got = omega (arith, p);
-      memory_same = omega (arith, q);
-      cycles_got = omega (arith, a);
-      events_got = omega (arith, b);
-      cycles_same = omega (arith, c);
-      events_same = omega (arith, d);
-      signals_same = omega (arith, e);
-    }
-receives-there rows w Cycles n t =
-    let p = t memory_in (at_amount Cycles (receives n)) in
-    let q = t memory_spent (at_amount Cycles (receives n)) in
-    let a = t cycles_in (at_amount Cycles (receives n)) in let b = t events_in (at_amount Cycles (receives n)) in let c = t cycles_spent (at_amount Cycles (receives n)) in let d = t events_spent (at_amount Cycles (receives n)) in let e = t signals (at_amount Cycles (receives n)) in
-    record {
-      memory_got = omega (arith, p);
-      memory_same = omega (arith, q);
-      cycles_got = omega (arith, a);
-      events_got = omega (arith, b);
-      cycles_same = omega (arith, c);
-      events_same = omega (arith, d);
-      signals_same = omega (arith, e);
+      same_total = c.same_total;
+      balanced = c.balanced;
+      spent = λ other. let e = transfer-spent rows from to kind other n in omega (arith, e);
+      prepared_of = λ m. let e = transfer-signals m rows from to kind n in omega (arith, e);
+      sponsors_are = c.same_sponsors ∙ sym (append-nil (sponsors rows));
     }
 
-receives-with : (rows : List Account) (w : W) (kind : Quota) (n : ℕ) → With rows (at_account w (at_amount kind (receives n)) rows) (of_memory kind n) (of_cycles kind n) (of_events kind n)
-receives-with rows w kind n = pick (found rows w)
-  where
-    pick : There rows w ⊎ Absent rows w → With rows (at_account w (at_amount kind (receives n)) rows) (of_memory kind n) (of_cycles kind n) (of_events kind n)
-    pick (inl t) = receives-there rows w kind n t
-    pick (inr z) = rw (z.0 (at_amount kind (receives n))) (record { memory_got = omega arith; memory_same = refl; cycles_got = omega arith; events_got = omega arith; cycles_same = refl; events_same = refl; signals_same = refl })
-
-moved : (rows : List Account) (from to : W) (kind : Quota) (n : ℕ) → n ≤ held rows from kind → (b : Bool) → Follows rows (if b then rows else at_account to (at_amount kind (receives n)) (at_account from (at_amount kind (passes n)) rows)) 0 0 0 0
-moved rows from to kind n h true = follows-refl rows
-moved rows from to kind n h false =
-    let p = passes-without rows from kind n h in
-    let g = receives-with (at_account from (at_amount kind (passes n)) rows) to kind n in
+pub reclaim-moves : (rows : List Account) (from to : W) → Among to (sponsors rows) → Moves rows (reclaim rows from to) nothing_due [] []
+reclaim-moves rows from to i =
+    let c = reclaim-conserves rows from to i in
+    let one = transfer rows from to Memory (held rows from Memory) in
+    let two = transfer one from to Events (held rows from Events) in
     record {
-      memory_kept = omega (arith, p.memory_left, g.memory_got);
-      memory_more = omega (arith, p.memory_same, g.memory_same);
-      cycles_kept = omega (arith, p.cycles_left, g.cycles_got);
-      events_kept = omega (arith, p.events_left, g.events_got);
-      cycles_more = omega (arith, p.cycles_same, g.cycles_same);
-      events_more = omega (arith, p.events_same, g.events_same);
-      signals_more = omega (arith, p.signals_same, g.signals_same);
+      same_total = c.same_total;
+      balanced = c.balanced;
+      spent = λ other.
+          let x = transfer-spent rows from to Memory other (held rows from Memory) in
+          let y = transfer-spent one from to Events other (held rows from Events) in
+          let z = transfer-spent two from to Cycles other (held rows from Cycles) in
+          omega (arith, x, y, z);
+      prepared_of = λ m.
+          let x = transfer-signals m rows from to Memory (held rows from Memory) in
+          let y = transfer-signals m one from to Events (held rows from Events) in
+          let z = transfer-signals m two from to Cycles (held rows from Cycles) in
+          omega (arith, x, y, z);
+      sponsors_are = c.same_sponsors ∙ sym (append-nil (sponsors rows));
     }
-
-pub transfer-follows : (rows : List Account) (from to : W) (kind : Quota) (n : ℕ) → n ≤ held rows from kind → Follows rows (transfer rows from to kind n) 0 0 0 0
-transfer-follows rows from to kind n h = moved rows from to kind n h (same_word from to)
-
--- ---- what is held of another kind
-
--- what is held of a kind, after a change of another one
-held_at : (a : Account) (rows : List Account) (w v : W) (kind : Quota) (change : Account → Account) (b : Bool) → (change a).sponsor ≡ a.sponsor → (amount kind (change a)).held ≡ (amount kind a).held → (amount kind (account (at_account w change rows) v)).held ≡ (amount kind (account rows v)).held → (amount kind (account (if b then change a ∷ rows else a ∷ at_account w change rows) v)).held ≡ (amount kind (account (a ∷ rows) v)).held
-held_at a rows w v kind change true named keeps h = first (same_word (change a).sponsor v) (same_word a.sponsor v) (ap (λ (u : W). same_word u v) named)
-  where
-    first : (b c : Bool) → b ≡ c → (amount kind (if b then change a else account rows v)).held ≡ (amount kind (if c then a else account rows v)).held
-    first true true e = keeps
-    first true false e = cc
-    first false true e = cc
-    first false false e = refl
-held_at a rows w v kind change false named keeps h = later (same_word a.sponsor v)
-  where
-    later : (c : Bool) → (amount kind (if c then a else account (at_account w change rows) v)).held ≡ (amount kind (if c then a else account rows v)).held
-    later true = refl
-    later false = h
-
-held-other : (rows : List Account) (w v : W) (kind : Quota) (change : Account → Account) → ((a : Account) → (change a).sponsor ≡ a.sponsor) → ((a : Account) → (amount kind (change a)).held ≡ (amount kind a).held) → held (at_account w change rows) v kind ≡ held rows v kind
-held-other [] w v kind change named keeps = refl
-held-other (a ∷ rows) w v kind change named keeps = held_at a rows w v kind change (same_word a.sponsor w) (named a) (keeps a) (held-other rows w v kind change named keeps)
-
--- a transfer of one kind leaves another kind as it is
-transfer-other : (rows : List Account) (from to v : W) (k kind : Quota) (n : ℕ) → ((g : Amount → Amount) (a : Account) → (at_amount k g a).sponsor ≡ a.sponsor) → ((g : Amount → Amount) (a : Account) → (amount kind (at_amount k g a)).held ≡ (amount kind a).held) → held (transfer rows from to k n) v kind ≡ held rows v kind
-transfer-other rows from to v k kind n named keeps = pick (same_word from to)
-  where
-    pick : (b : Bool) → held (if b then rows else at_account to (at_amount k (receives n)) (at_account from (at_amount k (passes n)) rows)) v kind ≡ held rows v kind
-    pick true = refl
-    pick false =
-        held-other (at_account from (at_amount k (passes n)) rows) to v kind (at_amount k (receives n)) (named (receives n)) (keeps (receives n))
-        ∙ held-other rows from v kind (at_amount k (passes n)) (named (passes n)) (keeps (passes n))
-
--- what is taken back of each kind is still held when its turn comes
-pub reclaim-held : (rows : List Account) (from to : W) → (held rows from Events ≤ held (transfer rows from to Memory (held rows from Memory)) from Events) × (held rows from Cycles ≤ held (transfer (transfer rows from to Memory (held rows from Memory)) from to Events (held rows from Events)) from Cycles)
-reclaim-held rows from to =
-    let first = transfer rows from to Memory (held rows from Memory) in
-    let second = transfer first from to Events (held rows from Events) in
-    let e : held first from Events ≡ held rows from Events = transfer-other rows from to from Memory Events _ (λ g a. refl) (λ g a. refl) in
-    let c : held first from Cycles ≡ held rows from Cycles = transfer-other rows from to from Memory Cycles _ (λ g a. refl) (λ g a. refl) in
-    let d : held second from Cycles ≡ held first from Cycles = transfer-other first from to from Events Cycles _ (λ g a. refl) (λ g a. refl) in
-    (omega (arith, e), omega (arith, c, d))
-
-pub reclaim-follows : (rows : List Account) (from to : W) → Follows rows (reclaim rows from to) 0 0 0 0
-reclaim-follows rows from to =
-    let first = transfer rows from to Memory (held rows from Memory) in
-    let second = transfer first from to Events (held rows from Events) in
-    let h = reclaim-held rows from to in
-    let f = transfer-follows rows from to Memory (held rows from Memory) (le_refl _) in
-    let g = transfer-follows first from to Events (held rows from Events) h.0 in
-    let k = transfer-follows second from to Cycles (held rows from Cycles) h.1 in
-    follows-then rows second (reclaim rows from to) 0 0 0 0 0 0 0 0 (follows-then rows first second 0 0 0 0 0 0 0 0 f g) k
 
 -- ---- what an effect does
 
--- what is granted is held
-abbrev pub IsHeld : List Account → W → Effect → Type 0
-IsHeld rows who Nothing = Unit {0}
-IsHeld rows who (Sends m) = Unit {0}
-IsHeld rows who (Creates m) = Unit {0}
-IsHeld rows who (Assigns m) = Unit {0}
-IsHeld rows who (Becomes b) = Unit {0}
-IsHeld rows who (Sponsors w) = Unit {0}
-IsHeld rows who (Grants w kind n) = n ≤ held rows who kind
-IsHeld rows who (Reclaims w) = Unit {0}
-IsHeld rows who (Starts w signal) = Unit {0}
-IsHeld rows who (Stops w) = Unit {0}
+-- what is granted is held, and goes to a sponsor that has an account; so does what is taken back
+abbrev pub Allowed : List Account → W → Effect → Type 0
+Allowed rows who Nothing = Unit {0}
+Allowed rows who (Sends m) = Unit {0}
+Allowed rows who (Creates m) = Unit {0}
+Allowed rows who (Assigns m) = Unit {0}
+Allowed rows who (Becomes b) = Unit {0}
+Allowed rows who (Sponsors w) = Unit {0}
+Allowed rows who (Grants w kind n) = (n ≤ held rows who kind) × Among w (sponsors rows)
+Allowed rows who (Reclaims w) = Among who (sponsors rows)
+Allowed rows who (Starts w signal) = Unit {0}
+Allowed rows who (Stops w) = Unit {0}
 
--- how many signals an effect prepares
-abbrev pub prepares : Effect → ℕ
-prepares Nothing = 0
-prepares (Sends m) = 0
-prepares (Creates m) = 0
-prepares (Assigns m) = 0
-prepares (Becomes b) = 0
-prepares (Sponsors w) = 0
-prepares (Grants w kind n) = 0
-prepares (Reclaims w) = 0
-prepares (Starts w signal) = 1
-prepares (Stops w) = 0
+-- the signal that an effect prepares
+abbrev pub prepares : Effect → List W
+prepares Nothing = []
+prepares (Sends m) = []
+prepares (Creates m) = []
+prepares (Assigns m) = []
+prepares (Becomes b) = []
+prepares (Sponsors w) = []
+prepares (Grants w kind n) = []
+prepares (Reclaims w) = []
+prepares (Starts w signal) = signal ∷ []
+prepares (Stops w) = []
 
-sponsor-follows : (rows : List Account) (w : W) → Follows rows (with_sponsor rows w) 0 0 0 0
-sponsor-follows rows w = record {
-  memory_kept = let s = total-append memory_in rows (no_account w ∷ []) in omega (arith, s);
-  memory_more = let s = total-append memory_spent rows (no_account w ∷ []) in omega (arith, s);
-  cycles_kept = let s = total-append cycles_in rows (no_account w ∷ []) in omega (arith, s);
-  events_kept = let s = total-append events_in rows (no_account w ∷ []) in omega (arith, s);
-  cycles_more = let s = total-append cycles_spent rows (no_account w ∷ []) in omega (arith, s);
-  events_more = let s = total-append events_spent rows (no_account w ∷ []) in omega (arith, s);
-  signals_more = let s = total-append signals rows (no_account w ∷ []) in omega (arith, s);
+-- the sponsor that it makes
+abbrev pub makes : Effect → List W
+makes Nothing = []
+makes (Sends m) = []
+makes (Creates m) = []
+makes (Assigns m) = []
+makes (Becomes b) = []
+makes (Sponsors w) = w ∷ []
+makes (Grants w kind n) = []
+makes (Reclaims w) = []
+makes (Starts w signal) = []
+makes (Stops w) = []
+
+sponsors-push : (rows : List Account) (w : W) → sponsors (rows ++ no_account w ∷ []) ≡ sponsors rows ++ w ∷ []
+sponsors-push [] w = refl
+sponsors-push (a ∷ rows) w = ap (λ (ws : List W). a.sponsor ∷ ws) (sponsors-push rows w)
+
+none-kept : (kind : Quota) (w : W) → kept kind (no_account w) ≡ 0
+none-kept Memory w = refl
+none-kept Events w = refl
+none-kept Cycles w = refl
+
+none-spent : (kind : Quota) (w : W) → spent_of kind (no_account w) ≡ 0
+none-spent Memory w = refl
+none-spent Events w = refl
+none-spent Cycles w = refl
+
+none-balanced : (w : W) → IsBalanced (no_account w)
+none-balanced w Memory = refl
+none-balanced w Events = refl
+none-balanced w Cycles = refl
+
+sponsor-moves : (rows : List Account) (w : W) → Moves rows (with_sponsor rows w) nothing_due [] (w ∷ [])
+sponsor-moves rows w = record {
+  same_total = λ kind. omega (arith, sum_by_push (kept kind) rows (no_account w), none-kept kind w);
+  balanced = λ e. Each-push IsBalanced rows (no_account w) e (none-balanced w);
+  spent = λ kind. omega (arith, sum_by_push (spent_of kind) rows (no_account w), none-spent kind w);
+  prepared_of = λ m. omega (arith, sum_by_push (λ (a : Account). m.of (signals_of a)) rows (no_account w));
+  sponsors_are = sponsors-push rows w;
 }
 
-pub effect-follows : (rows : List Account) (who : W) (x : Effect) → IsHeld rows who x → Follows rows (sheet_after rows who x) 0 0 0 (prepares x)
-effect-follows rows who Nothing h = follows-refl rows
-effect-follows rows who (Sends m) h = follows-refl rows
-effect-follows rows who (Creates m) h = follows-refl rows
-effect-follows rows who (Assigns m) h = follows-refl rows
-effect-follows rows who (Becomes b) h = follows-refl rows
-effect-follows rows who (Sponsors w) h = sponsor-follows rows w
-effect-follows rows who (Grants w kind n) h = transfer-follows rows who w kind n h
-effect-follows rows who (Reclaims w) h = reclaim-follows rows w who
-effect-follows rows who (Starts w signal) h = start-follows rows w signal
-effect-follows rows who (Stops w) h = (stop-follows rows w).follows
+pub effect-moves : (rows : List Account) (who : W) (x : Effect) → Allowed rows who x → Moves rows (sheet_after rows who x) nothing_due (prepares x) (makes x)
+effect-moves rows who Nothing h = moves-refl rows
+effect-moves rows who (Sends m) h = moves-refl rows
+effect-moves rows who (Creates m) h = moves-refl rows
+effect-moves rows who (Assigns m) h = moves-refl rows
+effect-moves rows who (Becomes b) h = moves-refl rows
+effect-moves rows who (Sponsors w) h = sponsor-moves rows w
+effect-moves rows who (Grants w kind n) h = transfer-moves rows who w kind n h.1 h.0
+effect-moves rows who (Reclaims w) h = reclaim-moves rows w who h
+effect-moves rows who (Starts w signal) h = stands-moves rows w (Running (Some signal))
+effect-moves rows who (Stops w) h = stands-moves rows w Stopped

@@ -1,9 +1,10 @@
 -- What the machine reads of events and actors, and what it changes of actors.
-use Rattle.std.specs.Prelude.{ℕ, pos, Bool, false, List, [], ◌∷◌, Option, Some, None}
+use Rattle.std.specs.Prelude.{ℕ, pos, Bool, false, Option, Some, None}
 use Rattle.cap_words.specs.Words.{W, Fix, same_word, undef}
 use Rattle.cap_words.specs.Store.{cap_place}
 use Rattle.cap_words.specs.Seen.{Seen, Slot, ActorSlot, EventSlot, slot_seen, altered}
-use Rattle.instr_table.specs.Event.{Sent, Made, Behaviour, Effects}
+use Rattle.instr_table.specs.Event.{Sent, Behaviour, Effects}
+use Rattle.vm_effects.specs.Actors.{all_idle}
 
 -- ---- events
 
@@ -58,11 +59,6 @@ busy number code state = ActorSlot code state (Fix (pos number))
 abbrev pub resting : Option Behaviour → W → W → Slot
 resting None code state = ActorSlot code state undef
 resting (Some b) code state = ActorSlot b.code b.state undef
-
--- each of these actors is idle, with its code and state
-abbrev pub all_idle : Seen → List Made → Seen
-all_idle s [] = s
-all_idle s (m ∷ ms) = all_idle (altered s (cap_place m.actor) (ActorSlot m.code m.state undef)) ms
 
 -- the store after an event of that actor ended with these effects
 abbrev pub settled : Seen → W → Effects → Seen

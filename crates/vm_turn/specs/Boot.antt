@@ -1,22 +1,12 @@
 -- The state that a machine begins in.
 use Rattle.std.specs.Prelude.{ℕ, pos, List, [], ◌∷◌, None}
-use Rattle.cap_words.specs.declared.word.Quad.{Quad}
 use Rattle.cap_words.specs.Words.{W, Fix, Ram, Cap, undef, nil}
 use Rattle.cap_words.specs.Seen.{Slot, OpenSlot, ActorSlot, EventSlot, SponsorSlot, SpentSlot}
+use Rattle.quad_memory.specs.Image.{RomImage}
 use Rattle.instr_table.specs.Lists.{pair_quad}
-use Rattle.instr_table.specs.Sheet.{Account, Running, holding}
+use Rattle.vm_sponsor.specs.declared.amounts.Amounts.{Amounts}
+use Rattle.vm_sponsor.specs.Sheets.{root_account}
 use Rattle.vm_turn.specs.State.{State, root, println_device, say_device}
-
--- an image: the code of the first actor, and the ROM cells from number 16 on
-pub record Image : Type 0 where
-  pub boot : W
-  pub cells : List Quad
-
--- what the root sponsor begins with of each kind
-pub record Grant : Type 0 where
-  pub memory : ℕ
-  pub events : ℕ
-  pub cycles : ℕ
 
 -- the first actor
 abbrev pub first_actor : W
@@ -35,12 +25,8 @@ boot_slots code =
     ActorSlot code (Ram 5) undef ∷
     EventSlot root first_actor nil ∷ []
 
--- the root's account at boot: it runs, with no signal
-abbrev pub root_account : Grant → Account
-root_account g = record { sponsor = root; memory = holding g.memory; events = holding g.events; cycles = holding g.cycles; standing = Running None }
-
--- the state at boot
-abbrev pub booted : Image → Grant → ℕ → State
+-- the state at boot: the root holds the grant and runs, and message 0 waits for the first actor
+abbrev pub booted : RomImage → Amounts → ℕ → State
 booted image grant lanes = record {
   store = record { rom = image.cells; slots = boot_slots image.boot };
   roll = first_actor ∷ println_device ∷ say_device ∷ [];
@@ -48,7 +34,7 @@ booted image grant lanes = record {
   next_number = 1;
   flight = [];
   lanes = lanes;
-  sheet = root_account grant ∷ [];
+  sheet = root_account root grant ∷ [];
   journal = [];
   output = [];
   out_of = None;

@@ -1,10 +1,12 @@
 -- Runs of turns, and the picks that a seed draws.
 use Rattle.std.specs.Prelude.{ℕ, zero, suc, ◌+◌, ◌*◌, ◌/◌, ◌%◌, ◌^◌, if◌then◌else◌, Bool, true, false, List, [], ◌∷◌, Option, Some, None}
+use Rattle.quad_memory.specs.Image.{RomImage}
 use Rattle.instr_table.specs.declared.charge.Quota.{Quota}
+use Rattle.vm_sponsor.specs.declared.amounts.Amounts.{Amounts}
 use Rattle.vm_turn.specs.declared.journal.Turn.{Turn as Answer}
 use Rattle.vm_turn.specs.declared.journal.Turn.TheVariants.{Dispatched, Stepped, Finished, Rest, Spent}
 use Rattle.vm_turn.specs.State.{State}
-use Rattle.vm_turn.specs.Boot.{Image, Grant, booted}
+use Rattle.vm_turn.specs.Boot.{booted}
 use Rattle.vm_turn.specs.Turn.{turn}
 
 -- the state after turns with these picks
@@ -13,7 +15,7 @@ after s [] = s
 after s (p ∷ ps) = after (turn s p).0 ps
 
 -- the state after turns with these picks from boot on
-abbrev pub run : Image → Grant → ℕ → List ℕ → State
+abbrev pub run : RomImage → Amounts → ℕ → List ℕ → State
 run image grant lanes picks = after (booted image grant lanes) picks
 
 -- what the turns with these picks answer

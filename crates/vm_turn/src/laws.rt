@@ -1,6 +1,6 @@
 // What is so of every run.
 
-ghost use Rattle.vm_turn.specs.Laws.{TurnsEnd, AccountsAddUp, RunsKeepToGrant};
+ghost use Rattle.vm_turn.specs.Laws.{TurnsEnd, AccountsAddUp, GrantsAreConserved, EventsStandOnce};
 ghost use Rattle.vm_turn.specs.Changes.{TurnsChange};
 
 /// A machine with C cycles and E events completes at most `C + 2 (E + 1)` turns, whatever its image, its lanes and its picks: each
@@ -14,10 +14,16 @@ pub fn accounts_add_up()
     ensures { AccountsAddUp }
 {}
 
-/// After every run no more is spent and held of each kind, over all sponsors, than was granted; and the quads that are taken leave room for
+/// After every run as much of each kind is spent and held, over all sponsors, as was granted; and the quads that are taken leave room for
 /// the memory that is held, in a store with room for the grant and the eight quads of boot.
-pub fn runs_keep_to_grant()
-    ensures { RunsKeepToGrant }
+pub fn grants_are_conserved()
+    ensures { GrantsAreConserved }
+{}
+
+/// After every run the event of a word stands in one place at most: it is an unfinished message's, or an event in flight sent it, or it is
+/// a prepared signal.
+pub fn events_stand_once()
+    ensures { EventsStandOnce }
 {}
 
 /// What a turn changes is told by its answer. An instruction that goes on changes its own lane, new quads and the sheet. An event that

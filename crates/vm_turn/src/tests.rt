@@ -1,11 +1,12 @@
 // Each law once: it has nothing to do.
 
-use crate::{accounts_add_up, runs_keep_to_grant, turns_change, turns_end};
+use crate::{accounts_add_up, events_stand_once, grants_are_conserved, turns_change, turns_end};
 
 #[test]
 fn laws_have_no_body(_rt: HostRuntime) {
     turns_end();
     turns_change();
     accounts_add_up();
-    runs_keep_to_grant();
+    grants_are_conserved();
+    events_stand_once();
 }

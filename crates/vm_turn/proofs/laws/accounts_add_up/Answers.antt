@@ -1,4 +1,4 @@
-use Rattle.vm_turn.proofs.Balances.{accounts-add_up}
+use Rattle.vm_turn.proofs.RunsSound.{accounts-add_up}
 use Rattle.vm_turn.proofs.laws.accounts_add_up.Goals as goal
 
 pub returns : goal.returns

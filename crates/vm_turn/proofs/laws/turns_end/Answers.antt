@@ -1,4 +1,4 @@
-use Rattle.vm_turn.proofs.Bound.{turns-end}
+use Rattle.vm_turn.proofs.RunsSound.{turns-end}
 use Rattle.vm_turn.proofs.laws.turns_end.Goals as goal
 
 pub returns : goal.returns
