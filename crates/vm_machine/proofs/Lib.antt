@@ -8,3 +8,5 @@ mod Keeping
 mod Ends
 mod Ended
 mod Failing
+mod Idling
+mod Committing

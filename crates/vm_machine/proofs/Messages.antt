@@ -77,7 +77,7 @@ kept-append f g n (w ∷ ws) ms h new =
 
 -- ---- numbers in lists
 
-among-append : (n : ℕ) (ks ms : List ℕ) → is_among n (ks ++ ms) ≡ (is_among n ks || is_among n ms)
+pub among-append : (n : ℕ) (ks ms : List ℕ) → is_among n (ks ++ ms) ≡ (is_among n ks || is_among n ms)
 among-append n [] ms = refl
 among-append n (k ∷ ks) ms = by (nat_eq k n) (among-append n ks ms)
   where
@@ -86,7 +86,7 @@ among-append n (k ∷ ks) ms = by (nat_eq k n) (among-append n ks ms)
     by false r = r
 
 -- none of the numbers from a number on is below it, and each of them is there
-numbers-below : (n k : ℕ) (ws : List W) → k < n → is_among k (numbers_from n ws) ≡ false
+pub numbers-below : (n k : ℕ) (ws : List W) → k < n → is_among k (numbers_from n ws) ≡ false
 numbers-below n k [] h = refl
 numbers-below n k (w ∷ ws) h = let e : nat_eq n k ≡ false = other n k (λ x. omega (arith, x, h)) in rw e (numbers-below (suc n) k ws (omega (arith, h)))
 
@@ -126,11 +126,11 @@ flight-end n (k ∷ ls) l = by (nat_eq k.number n) (flight-end n ls l)
     by true r = refl
     by false r = r
 
-or-true : (b : Bool) → (b || true) ≡ true
+pub or-true : (b : Bool) → (b || true) ≡ true
 or-true true = refl
 or-true false = refl
 
-or-false : (b : Bool) → (b || false) ≡ b
+pub or-false : (b : Bool) → (b || false) ≡ b
 or-false true = refl
 or-false false = refl
 

@@ -1,6 +1,6 @@
 // The committed actors.
 
-ghost use Rattle.std.specs.Prelude.{◌≡◌, ◌+◌, ◌≤◌, ◌++◌, vec_len, vec_capacity};
+ghost use Rattle.std.specs.Prelude.{◌≡◌, ◌+◌, ◌<◌, ◌≤◌, [], ◌∷◌, ◌++◌, vec_len, vec_capacity};
 ghost use Rattle.cap_words.specs.Store.{opaque_cell};
 ghost use Rattle.vm_effects.specs.Gathered.{made_from, made_words};
 ghost use Rattle.vm_effects.specs.Links.{link_in};
@@ -17,11 +17,21 @@ pub(crate) fn enter_all(quads: &Quads, roll: &mut Vec<Word>, first: Word, count:
 {
     let mut actor = first;
     for _ in 0..count {
-        match roll.push(actor) {
-            Ok(()) => {}
-            Err(_) => unreachable!(),
-        }
+        enter(roll, actor);
         actor = link_of(quads, actor);
+    }
+}
+
+// Enters an actor.
+fn enter(roll: &mut Vec<Word>, actor: Word)
+    requires { vec_len roll.old < vec_capacity roll.old }
+    ensures items { roll.new.items ≡ roll.old.items ++ actor ∷ [] }
+    ensures len { vec_len roll.new ≡ vec_len roll.old + 1 }
+    ensures capacity { vec_capacity roll.old ≤ vec_capacity roll.new }
+{
+    match roll.push(actor) {
+        Ok(()) => {}
+        Err(_) => unreachable!(),
     }
 }
 

@@ -7,4 +7,3 @@ pub mod Run
 pub mod Sound
 pub mod Laws
 pub mod Changes
-pub mod Sound
