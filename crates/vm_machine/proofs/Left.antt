@@ -43,21 +43,26 @@ cells-framed s t ws f o (Ram n) q h =
     tag_of None = Ordinary
     tag_of (Some c) = c.tag
 
--- a lane stays as it is where neither its event, its actor nor its own quads changed
-pub framed-flown : (s t : Store) (ws : List W) (sponsors given : List W) (ready : List ℕ) (k : Lane) → Framed s t ws → Opaque s ws → Flies s sponsors given ready k
+-- a lane stays as it is where neither its event, its actor nor its own quads changed, and no readable cell
+pub framed-flown-by : (s t : Store) (ws : List W) (sponsors given : List W) (ready : List ℕ) (k : Lane) → Framed s t ws → ((w : W) (q : Quad) → cell_seen (seen s) w ≡ Some q → cell_seen (seen t) w ≡ Some q) → Flies s sponsors given ready k
     → (Among k.event ws → ⊥) → (Among (own_at (seen s) k.event).actor ws → ⊥) → ((v : W) → Among v (lane_words s k) → Among v ws → ⊥) → Flown s t sponsors given ready k
-framed-flown s t ws sponsors given ready k f o h event actor words =
+framed-flown-by s t ws sponsors given ready k f cells h event actor words =
     let e = h.held.event in
     let a = h.held.actor in
     let x = effects-framed s t ws k.effects h.held.linked f words in
     still s t sponsors given ready k (record {
-      cells = λ w q y. cell-seen t w ∙ cells-framed s t ws f o w q (sym (cell-seen s w) ∙ y);
+      cells = cells;
       event = slot-framed s t ws k.event (EventSlot e.0 e.1 e.2) f event e.3 ∙ sym e.3;
       actor = slot-framed s t ws (own_at (seen s) k.event).actor (ActorSlot a.0 a.1 a.2) f actor a.3 ∙ sym a.3;
       effects = x.0;
       linked = x.1;
       grows = f.grows;
     }) h
+
+pub framed-flown : (s t : Store) (ws : List W) (sponsors given : List W) (ready : List ℕ) (k : Lane) → Framed s t ws → Opaque s ws → Flies s sponsors given ready k
+    → (Among k.event ws → ⊥) → (Among (own_at (seen s) k.event).actor ws → ⊥) → ((v : W) → Among v (lane_words s k) → Among v ws → ⊥) → Flown s t sponsors given ready k
+framed-flown s t ws sponsors given ready k f o h event actor words =
+    framed-flown-by s t ws sponsors given ready k f (λ w q y. cell-seen t w ∙ cells-framed s t ws f o w q (sym (cell-seen s w) ∙ y)) h event actor words
 
 -- an event is no actor
 pub event-other : (s : Store) (w a b c d e f : W) → slot_seen (seen s) w ≡ Some (EventSlot a b c) → slot_seen (seen s) w ≡ Some (ActorSlot d e f) → ⊥

@@ -10,3 +10,5 @@ mod Ended
 mod Failing
 mod Idling
 mod Committing
+mod Stopping
+mod Releasing

@@ -26,6 +26,7 @@ pub(crate) fn fail(parts: &mut Parts, place: usize, outcome: Outcome) -> Entry
     ensures kept { Kept parts.new }
     ensures state { (l : Flying) → slice_get (state_of parts.old).flight place ≡ Some l → state_of parts.new ≡ finish (state_of parts.old) place l (state_of parts.old).sheet no_effects outcome }
     ensures entry { (l : Flying) → slice_get (state_of parts.old).flight place ≡ Some l → result ≡ entry l.number outcome }
+    ensures queue { parts.new.queue ≡ parts.old.queue }
 {
     let lane = parts.flight.remove(place);
     let actor = target_of(&parts.quads, lane.event);
