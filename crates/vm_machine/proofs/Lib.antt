@@ -12,3 +12,4 @@ mod Idling
 mod Committing
 mod Stopping
 mod Releasing
+mod Exhausting

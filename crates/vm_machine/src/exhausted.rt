@@ -1,7 +1,7 @@
 // Events whose sponsor held too little.
 
 ghost use Rattle.std.specs.Prelude.{◌≡◌, ◌<◌, Some, None, pos, length, option_map, slice_get, [], ◌∷◌};
-ghost use Rattle.cap_words.specs.Words.{W, Fix};
+ghost use Rattle.cap_words.specs.Words.{W, Fix, same_word};
 ghost use Rattle.cap_words.specs.Seen.{EventSlot, seen, slot_seen};
 ghost use Rattle.cap_words.specs.Frame.{Among, Framed};
 ghost use Rattle.quad_memory.specs.Cells.{event_at};
@@ -9,6 +9,7 @@ ghost use Rattle.instr_table.specs.Lane.{Lane as Flying};
 ghost use Rattle.instr_table.specs.Reach.{Every};
 ghost use Rattle.instr_table.specs.Sheet.{prepared, stop};
 ghost use Rattle.vm_sponsor.specs.Ledger.{names};
+ghost use Rattle.vm_turn.specs.declared.journal.Outcome.TheVariants.{RanOut};
 ghost use Rattle.vm_turn.specs.State.{root};
 ghost use Rattle.vm_turn.specs.Actors.{sent_at, with_content};
 ghost use Rattle.vm_turn.specs.Turn.{entry, out_by, released, run_out, signal_number, spent_by};
@@ -21,10 +22,7 @@ use crate::parts::Parts;
 use cap_words::Word;
 use instr_table::Quota;
 use quad_memory::{EventCell, Quads};
-use vm_turn::{Outcome, Turn};
-
-// The root sponsor's word.
-pub(crate) const ROOT: u32 = 0;
+use vm_turn::{Entry, Outcome, Turn};
 
 // Stops a sponsor and gives the signal that it had prepared.
 fn stop(parts: &mut Parts, who: Word) -> Option<Word>
@@ -81,4 +79,71 @@ fn release(parts: &mut Parts, signal: Word, kind: Quota)
     fill(&mut parts.quads, signal, signal_word(kind));
     let _number = parts.queue.append(signal);
     parts.stuck = false;
+}
+
+// So does one that there may be.
+fn release_any(parts: &mut Parts, signal: Option<Word>, kind: Quota)
+    requires kept { Kept parts.old }
+    requires room { (w : W) → signal ≡ Some w → length parts.old.queue.given < parts.old.queue.room }
+    requires no_message { (w : W) → signal ≡ Some w → Among w (message_words (state_of parts.old).messages) → ⊥ }
+    requires not_sent { (w : W) → signal ≡ Some w → Every (λ (l : Flying). Among w (sent_by l) → ⊥) (state_of parts.old).flight }
+    ensures kept { Kept parts.new }
+    ensures state { state_of parts.new ≡ released signal kind (state_of parts.old) }
+{
+    if let Some(event) = signal {
+        release(parts, event, kind);
+    }
+}
+
+// The event at that place ends since its sponsor held too little: the sponsor is stopped, and its signal becomes a message. Where the
+// sponsor is the root the machine is spent.
+pub(crate) fn run_out(parts: &mut Parts, place: usize, kind: Quota) -> Turn
+    requires whole { Whole parts.old }
+    requires place { place < length parts.old.flight.items }
+    ensures kept { Kept parts.new }
+    ensures state { (l : Flying) → slice_get (state_of parts.old).flight place ≡ Some l → state_of parts.new ≡ out_by (same_word l.own.sponsor root) kind (run_out (state_of parts.old) place l kind) }
+    ensures turn { (l : Flying) → slice_get (state_of parts.old).flight place ≡ Some l → result ≡ spent_by (same_word l.own.sponsor root) kind (entry l.number (RanOut kind)) }
+{
+    let event = parts.flight[place].event;
+    let who = payer_of(&parts.quads, event);
+    let signal = stop(parts, who);
+    let entry = fail(parts, place, Outcome::RanOut(kind));
+    release_any(parts, signal, kind);
+    end_run(parts, who, kind, entry)
+}
+
+// Where the sponsor that ran out is the root the machine is spent.
+fn end_run(parts: &mut Parts, who: Word, kind: Quota, entry: Entry) -> Turn
+    requires kept { Kept parts.old }
+    ensures kept { Kept parts.new }
+    ensures state { state_of parts.new ≡ out_by (same_word who root) kind (state_of parts.old) }
+    ensures turn { result ≡ spent_by (same_word who root) kind entry }
+{
+    let root = Word::cap(0);
+    if is_same(who, root) {
+        parts.out_of = Some(kind);
+        return Turn::Spent {
+            sponsor: root,
+            kind,
+        };
+    }
+    Turn::Finished(entry)
+}
+
+// Whether two words are the same.
+pub(crate) fn is_same(a: Word, b: Word) -> bool
+    ensures { result ≡ same_word a b }
+{
+    a == b
+}
+
+// The sponsor of an event that is there.
+fn payer_of(quads: &Quads, event: Word) -> Word
+    requires { (sponsor : W) × (target : W) × (content : W) × (slot_seen (seen quads.now.store) event ≡ Some (EventSlot sponsor target content)) }
+    ensures { result ≡ (sent_at (seen quads.now.store) event).sponsor }
+{
+    match quads.event(event) {
+        Some(cell) => cell.sponsor,
+        None => unreachable!(),
+    }
 }

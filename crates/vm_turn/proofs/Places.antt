@@ -20,7 +20,7 @@ some_is : {X : Type 0} {x y : X} → Some x ≡ Some y → x ≡ y
 some_is h = cc
 
 -- the account of a sponsor counts no more than all
-account-under : (f : Account → ℕ) (rows : List Account) (w : W) → f (no_account w) ≡ 0 → f (account rows w) ≤ sum_by f rows
+pub account-under : (f : Account → ℕ) (rows : List Account) (w : W) → f (no_account w) ≡ 0 → f (account rows w) ≤ sum_by f rows
 account-under f [] w z = omega (arith, z)
 account-under f (a ∷ rows) w z = by (same_word a.sponsor w) (account-under f rows w z)
   where
