@@ -1,5 +1,5 @@
 pub mod Ascending
 pub mod Starting
 pub mod Appending
-pub mod Waits
+pub mod FirstToGo
 pub mod Standing

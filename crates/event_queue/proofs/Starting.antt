@@ -11,15 +11,16 @@ use Rattle.event_queue.specs.Starts.{can_start, first_ready, StartsFirst, NoneSt
 use Rattle.event_queue.proofs.Ascending.{contains-first, contains-more, contains-either, contains-low, contains-high}
 
 module _ (s : Store) (given : List W) where
-  -- it is ready, it can start, and no ready one with a lower number can
-  first-starts : (low high : ℕ) (ns : List ℕ) (n : ℕ) → IsAscending low high ns → first_ready s given ns ≡ Some n
-      → Contains ns n × (can_start s (event_of given n) ≡ true) × ((m : ℕ) → Contains ns m → m < n → can_start s (event_of given m) ≡ false)
+  -- a number can start, and no lower one of the list can
+  abbrev IsLeast : List ℕ → ℕ → Type 0
+  IsLeast ns n = Contains ns n × (can_start s (event_of given n) ≡ true) × ((m : ℕ) → Contains ns m → m < n → can_start s (event_of given m) ≡ false)
+
+  first-starts : (low high : ℕ) (ns : List ℕ) (n : ℕ) → IsAscending low high ns → first_ready s given ns ≡ Some n → IsLeast ns n
   first-starts low high [] n a h = cc
   first-starts low high (k ∷ ns) n a h = by (can_start s (event_of given k)) refl h (λ e. first-starts (suc k) high ns n a.2 e)
     where
       by : (b : Bool) → can_start s (event_of given k) ≡ b → (if b then Some k else first_ready s given ns) ≡ Some n
-          → (first_ready s given ns ≡ Some n → Contains ns n × (can_start s (event_of given n) ≡ true) × ((m : ℕ) → Contains ns m → m < n → can_start s (event_of given m) ≡ false))
-          → Contains (k ∷ ns) n × (can_start s (event_of given n) ≡ true) × ((m : ℕ) → Contains (k ∷ ns) m → m < n → can_start s (event_of given m) ≡ false)
+          → (first_ready s given ns ≡ Some n → IsLeast ns n) → IsLeast (k ∷ ns) n
       by true t e more =
           let same : k ≡ n = cc in (
             subst (λ (i : ℕ). Contains (k ∷ ns) i) same (contains-first k ns),

@@ -1,5 +1,5 @@
 -- The messages that ready numbers stand for, and the first of them that the written turn dispatches.
-use Rattle.std.proofs.Common.{◌≡◌, ℕ, List, [], ◌∷◌, Option, Some, None, Bool, true, false, if◌then◌else◌, refl, ap, sym, ◌∙◌, subst}
+use Rattle.std.proofs.Common.{◌≡◌, ℕ, List, [], ◌∷◌, ◌++◌, nat_eq, Option, Some, None, Bool, true, false, if◌then◌else◌, refl, ap, sym, ◌∙◌, subst}
 use Rattle.std.specs.Prelude.{option_map, ◌&&◌}
 use Rattle.cap_words.specs.Words.{W}
 use Rattle.cap_words.specs.Store.{Store}
@@ -13,7 +13,7 @@ use Rattle.vm_sponsor.specs.Sheets.{Belongs, sheet_of}
 use Rattle.vm_sponsor.proofs.Steps.{read-runs}
 use Rattle.vm_turn.specs.State.{Message}
 use Rattle.vm_turn.specs.Actors.{sent_at, is_idle}
-use Rattle.vm_turn.specs.Turn.{is_in_flight, first_to_go}
+use Rattle.vm_turn.specs.Turn.{is_in_flight, first_to_go, without}
 use Rattle.event_queue.specs.Pending.{event_of}
 use Rattle.event_queue.specs.Starts.{runs_by, can_start, first_ready}
 use Rattle.event_queue.specs.Waiting.{message_of, messages_of, waiting, Sponsored, FirstReadyGoesFirst}
@@ -72,3 +72,20 @@ sponsored-waiting s ws flight (m ∷ ms) h = by (is_in_flight m.number flight) (
     by : (b : Bool) → Sponsored s ws (waiting flight ms) → Sponsored s ws (if b then waiting flight ms else m ∷ waiting flight ms)
     by true r = r
     by false r = (h.0, r)
+
+-- more messages, fewer, or another store
+pub sponsored-append : (s : Seen) (ws : List W) (ms xs : List Message) → Sponsored s ws ms → Sponsored s ws xs → Sponsored s ws (ms ++ xs)
+sponsored-append s ws [] xs h k = k
+sponsored-append s ws (m ∷ ms) xs h k = (h.0, sponsored-append s ws ms xs h.1 k)
+
+pub sponsored-without : (s : Seen) (ws : List W) (n : ℕ) (ms : List Message) → Sponsored s ws ms → Sponsored s ws (without n ms)
+sponsored-without s ws n [] h = tt
+sponsored-without s ws n (m ∷ ms) h = by (nat_eq m.number n) (sponsored-without s ws n ms h.1)
+  where
+    by : (b : Bool) → Sponsored s ws (without n ms) → Sponsored s ws (if b then without n ms else m ∷ without n ms)
+    by true r = r
+    by false r = (h.0, r)
+
+pub sponsored-kept : (s t : Seen) (ws vs : List W) (ms : List Message) → ((w : W) → Among (sent_at s w).sponsor ws → Among (sent_at t w).sponsor vs) → Sponsored s ws ms → Sponsored t vs ms
+sponsored-kept s t ws vs [] f h = tt
+sponsored-kept s t ws vs (m ∷ ms) f h = (f m.event h.0, sponsored-kept s t ws vs ms f h.1)
