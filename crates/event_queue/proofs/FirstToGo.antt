@@ -1,28 +1,51 @@
 -- The messages that ready numbers stand for, and the first of them that the written turn dispatches.
-use Rattle.std.proofs.Common.{◌≡◌, ℕ, List, [], ◌∷◌, ◌++◌, nat_eq, Option, Some, None, Bool, true, false, if◌then◌else◌, refl, ap, sym, ◌∙◌, subst}
+use Rattle.std.proofs.Common.{◌≡◌, ℕ, List, [], ◌∷◌, ◌++◌, nat_eq, Option, Some, None, Bool, true, false, if◌then◌else◌, refl, ap, sym, ◌∙◌, inl, inr}
 use Rattle.std.specs.Prelude.{option_map, ◌&&◌}
-use Rattle.cap_words.specs.Words.{W}
+use Rattle.cap_words.specs.Words.{W, same_word}
 use Rattle.cap_words.specs.Store.{Store}
 use Rattle.cap_words.specs.Seen.{Seen, seen}
 use Rattle.cap_words.specs.Frame.{Among}
+use Rattle.cap_words.proofs.Same.{word_same}
+use Rattle.quad_memory.specs.declared.cells.SponsorCell.{SponsorCell}
 use Rattle.quad_memory.specs.Cells.{sponsor_at}
 use Rattle.instr_table.specs.Sheet.{Account, runs}
 use Rattle.instr_table.specs.Lane.{Lane}
+use Rattle.vm_sponsor.specs.declared.amounts.Row.{Row}
 use Rattle.vm_sponsor.specs.Ledger.{Ledger, names}
 use Rattle.vm_sponsor.specs.Sheets.{Belongs, sheet_of}
 use Rattle.vm_sponsor.proofs.Steps.{read-runs}
 use Rattle.vm_turn.specs.State.{Message}
 use Rattle.vm_turn.specs.Actors.{sent_at, is_idle}
-use Rattle.vm_turn.specs.Turn.{is_in_flight, first_to_go, without}
+use Rattle.vm_turn.specs.Turn.{is_in_flight, first_to_go}
 use Rattle.event_queue.specs.Pending.{event_of}
 use Rattle.event_queue.specs.Starts.{runs_by, can_start, first_ready}
-use Rattle.event_queue.specs.Waiting.{message_of, messages_of, waiting, Sponsored, FirstReadyGoesFirst}
+use Rattle.event_queue.specs.Waiting.{message_of, messages_of, waiting, IsListed, FirstReadyGoesFirst}
 
 -- a sponsor of the sheet runs where its cell says so
 pub runs-cell : (s : Store) (sheet : Ledger) (w : W) → Belongs s sheet → Among w (names sheet.rows) → runs (sheet_of s sheet.rows) w ≡ runs_by (sponsor_at s w)
 runs-cell s sheet w b a =
     let c = b.there w a in
     read-runs s sheet.rows w c.0 (record { named = a; cell = c.1; amounts = c.2 }) ∙ sym (ap runs_by c.1)
+
+-- where no row is a sponsor's it does not run
+unknown : (s : Store) (rows : List Row) (w : W) → (Among w (names rows) → ⊥) → runs (sheet_of s rows) w ≡ false
+unknown s [] w h = refl
+unknown s (r ∷ rows) w h = by (same_word r.sponsor w) refl (unknown s rows w (λ a. h (inr a)))
+  where
+    by : (b : Bool) → same_word r.sponsor w ≡ b → runs (sheet_of s rows) w ≡ false → runs (sheet_of s (r ∷ rows)) w ≡ false
+    by true e k = absurd (h (inl (sym (word_same r.sponsor w e))))
+    by false e k = rw e k
+
+-- a word runs by the sheet where it does by its cell
+pub runs-listed : (s : Store) (sheet : Ledger) → Belongs s sheet → IsListed s sheet → (w : W) → runs (sheet_of s sheet.rows) w ≡ runs_by (sponsor_at s w)
+runs-listed s sheet b l w = by (sponsor_at s w) refl
+  where
+    by : (o : Option SponsorCell) → sponsor_at s w ≡ o → runs (sheet_of s sheet.rows) w ≡ runs_by (sponsor_at s w)
+    by None h = unknown s sheet.rows w (λ a. let c = b.there w a in none c.0 (sym h ∙ c.1)) ∙ sym (ap runs_by h)
+      where
+        none : (c : SponsorCell) → None ≡ Some c → ⊥
+        none c e = cc
+    by (Some c) h = runs-cell s sheet w b (l w c h)
 
 -- whether a message that is not in flight can go
 abbrev can_begin : Seen → List Account → Message → Bool
@@ -44,13 +67,13 @@ waiting-first s sheet flight (m ∷ ms) = by (is_in_flight m.number flight) refl
     by false e r = rw e (ap (λ (o : Option Message). if can_begin s sheet m then Some m else o) r)
 
 -- of the messages of ready numbers it is that of the first ready one
-ready-first : (s : Store) (sheet : Ledger) (given : List W) (ns : List ℕ) → Belongs s sheet → Sponsored (seen s) (names sheet.rows) (messages_of given ns)
+ready-first : (s : Store) (sheet : Ledger) (given : List W) (ns : List ℕ) → Belongs s sheet → IsListed s sheet
     → first_begun (seen s) (sheet_of s sheet.rows) (messages_of given ns) ≡ option_map (message_of given) (first_ready s given ns)
 ready-first s sheet given [] b h = refl
 ready-first s sheet given (n ∷ ns) b h =
     let m = sent_at (seen s) (event_of given n) in
-    let e : can_begin (seen s) (sheet_of s sheet.rows) (message_of given n) ≡ can_start s (event_of given n) = ap (λ (r : Bool). is_idle (seen s) m.target && r) (runs-cell s sheet m.sponsor b h.0) in
-    by (can_start s (event_of given n)) (first_ready s given ns) e (ready-first s sheet given ns b h.1)
+    let e : can_begin (seen s) (sheet_of s sheet.rows) (message_of given n) ≡ can_start s (event_of given n) = ap (λ (r : Bool). is_idle (seen s) m.target && r) (runs-listed s sheet b h m.sponsor) in
+    by (can_start s (event_of given n)) (first_ready s given ns) e (ready-first s sheet given ns b h)
   where
     by : (t : Bool) (rest : Option ℕ) {o : Option Message} {u : Bool} → u ≡ t → o ≡ option_map (message_of given) rest
         → (if u then Some (message_of given n) else o) ≡ option_map (message_of given) (if t then Some n else rest)
@@ -58,34 +81,7 @@ ready-first s sheet given (n ∷ ns) b h =
     by false rest e r = rw e r
 
 pub first-ready_goes_first : FirstReadyGoesFirst
-first-ready_goes_first s sheet flight messages q b h e =
-    let k : Sponsored (seen s) (names sheet.rows) (messages_of q.given q.ready) = subst (Sponsored (seen s) (names sheet.rows)) e h in
+first-ready_goes_first s sheet flight messages q b l e =
     waiting-first (seen s) (sheet_of s sheet.rows) flight messages
     ∙ ap (first_begun (seen s) (sheet_of s sheet.rows)) e
-    ∙ ready-first s sheet q.given q.ready b k
-
--- the messages that are not in flight have sponsors where all have
-pub sponsored-waiting : (s : Seen) (ws : List W) (flight : List Lane) (ms : List Message) → Sponsored s ws ms → Sponsored s ws (waiting flight ms)
-sponsored-waiting s ws flight [] h = tt
-sponsored-waiting s ws flight (m ∷ ms) h = by (is_in_flight m.number flight) (sponsored-waiting s ws flight ms h.1)
-  where
-    by : (b : Bool) → Sponsored s ws (waiting flight ms) → Sponsored s ws (if b then waiting flight ms else m ∷ waiting flight ms)
-    by true r = r
-    by false r = (h.0, r)
-
--- more messages, fewer, or another store
-pub sponsored-append : (s : Seen) (ws : List W) (ms xs : List Message) → Sponsored s ws ms → Sponsored s ws xs → Sponsored s ws (ms ++ xs)
-sponsored-append s ws [] xs h k = k
-sponsored-append s ws (m ∷ ms) xs h k = (h.0, sponsored-append s ws ms xs h.1 k)
-
-pub sponsored-without : (s : Seen) (ws : List W) (n : ℕ) (ms : List Message) → Sponsored s ws ms → Sponsored s ws (without n ms)
-sponsored-without s ws n [] h = tt
-sponsored-without s ws n (m ∷ ms) h = by (nat_eq m.number n) (sponsored-without s ws n ms h.1)
-  where
-    by : (b : Bool) → Sponsored s ws (without n ms) → Sponsored s ws (if b then without n ms else m ∷ without n ms)
-    by true r = r
-    by false r = (h.0, r)
-
-pub sponsored-kept : (s t : Seen) (ws vs : List W) (ms : List Message) → ((w : W) → Among (sent_at s w).sponsor ws → Among (sent_at t w).sponsor vs) → Sponsored s ws ms → Sponsored t vs ms
-sponsored-kept s t ws vs [] f h = tt
-sponsored-kept s t ws vs (m ∷ ms) f h = (f m.event h.0, sponsored-kept s t ws vs ms f h.1)
+    ∙ ready-first s sheet q.given q.ready b l

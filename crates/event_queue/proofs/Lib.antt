@@ -2,4 +2,3 @@ pub mod Ascending
 pub mod Starting
 pub mod Appending
 pub mod FirstToGo
-pub mod Standing

@@ -11,7 +11,7 @@ mod queue;
 mod release;
 mod start;
 
-pub use laws::{first_ready_goes_first, ready_numbers_keep_up};
+pub use laws::first_ready_goes_first;
 pub use queue::Queue;
 pub use release::append_all;
 pub use std::alloc::AllocError as NoMemory;

@@ -39,7 +39,7 @@ use Rattle.vm_step.specs.declared.lane.Lane.{Lane}
 use Rattle.vm_step.specs.Flight.{own_at, lane_of, lane_words}
 use Rattle.vm_step.specs.Books.{Books}
 use Rattle.vm_step.specs.Step.{sheet_in}
-use Rattle.event_queue.specs.Pending.{Pending, appended, numbers_from}
+use Rattle.event_queue.specs.Pending.{Pending, appended, numbers_from, IsAscending}
 use Rattle.vm_machine.specs.declared.parts.Parts.{Parts}
 use Rattle.vm_machine.specs.Messages.{is_among, unfinished}
 use Rattle.vm_machine.specs.Flight.{flight_of, Flies, Separate, Pairwise}
@@ -47,6 +47,7 @@ use Rattle.vm_machine.specs.View.{state_of}
 use Rattle.vm_machine.specs.Whole.{Kept, cycles_spent, created_in}
 use Rattle.vm_machine.proofs.Lists.{every-more, every-both, every-removed, pairs-more, pairs-removed, pairs-at, map-removed, get-map}
 use Rattle.vm_machine.proofs.Messages.{among-append, numbers-below, or-false, unfinished-append}
+use Rattle.vm_machine.proofs.Standing.{ascending-appended}
 use Rattle.vm_machine.proofs.Still.{Flown, separate-turned, separate-still}
 use Rattle.vm_machine.proofs.Left.{Opaque, framed-flown, Stayed, stayed}
 use Rattle.vm_machine.proofs.Keeping.{Quiet, quiet, used-same}
@@ -269,6 +270,7 @@ module _ (p : Parts) (place : ℕ) (lane : Lane) (e : slice_get p.flight.items p
       let g : length queue.given ≡ length p.queue.given + length events = ap (λ (q : Pending). length q.given) queue_is ∙ length-append p.queue.given events in
       let r : queue.room ≡ p.queue.room = ap (λ (q : Pending). q.room) queue_is in
       omega (arith, fits, length-events, g, r));
+    ascending = subst (λ (q : Pending). IsAscending 0 (length q.given) q.ready) (sym queue_is) (ascending-appended p.queue events k.ascending);
     journal_room = (let r : queue.room ≡ p.queue.room = ap (λ (q : Pending). q.room) queue_is in omega (arith, k.journal_room, journal_capacity, r));
     actors = (
       let n : length roll.items ≡ length p.roll.items + length words = ap (λ (l : List W). length l) entered ∙ length-append p.roll.items words in

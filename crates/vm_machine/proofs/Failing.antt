@@ -97,6 +97,7 @@ module _ (p : Parts) (place : ℕ) (lane : Lane) (e : slice_get p.flight.items p
     queue_room = k.queue_room;
     counts = omega (arith, k.counts, len, journal_len);
     given_room = k.given_room;
+    ascending = k.ascending;
     journal_room = omega (arith, k.journal_room, journal_capacity);
     actors = (
       let within : place < length (flight_of p.quads.store p.flight.items) = (let w = slice_get_within p.flight.items place lane e in omega (arith, w, length-map p.flight.items (lane_of p.quads.store))) in

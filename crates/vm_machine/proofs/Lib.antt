@@ -13,3 +13,4 @@ mod Committing
 mod Stopping
 mod Releasing
 mod Exhausting
+mod Standing

@@ -33,7 +33,7 @@ use Rattle.vm_step.specs.declared.lane.Lane.{Lane}
 use Rattle.vm_step.specs.Flight.{own_at, lane_of, lane_words}
 use Rattle.vm_step.specs.Books.{Books}
 use Rattle.vm_step.specs.Step.{sheet_in}
-use Rattle.event_queue.specs.Pending.{Pending, appended, numbers_from}
+use Rattle.event_queue.specs.Pending.{Pending, appended, numbers_from, IsAscending}
 use Rattle.vm_machine.specs.declared.parts.Parts.{Parts}
 use Rattle.vm_machine.specs.Messages.{is_among, is_unfinished, kept_from, unfinished}
 use Rattle.vm_machine.specs.Flight.{flight_of, Flies, Separate, Pairwise}
@@ -41,6 +41,7 @@ use Rattle.vm_machine.specs.View.{state_of}
 use Rattle.vm_machine.specs.Whole.{Kept, cycles_spent, created_in}
 use Rattle.vm_machine.proofs.Lists.{every-more, every-at, get-map}
 use Rattle.vm_machine.proofs.Messages.{unfinished-append, or-true}
+use Rattle.vm_machine.proofs.Standing.{ascending-appended}
 use Rattle.vm_machine.proofs.Still.{Flown}
 use Rattle.vm_machine.proofs.Left.{Opaque, framed-flown, Stayed, stayed}
 use Rattle.vm_machine.proofs.Keeping.{Quiet, quiet, sponsor-altered, used-same}
@@ -204,6 +205,7 @@ module _ (p : Parts) (k : Kept p) (signal content : W) (after : Memory) (queue :
       let g : length queue.given ≡ length p.queue.given + 1 = ap (λ (q : Pending). length q.given) queue_is ∙ length-append p.queue.given (signal ∷ []) in
       let r : queue.room ≡ p.queue.room = ap (λ (q : Pending). q.room) queue_is in
       omega (arith, fits, g, r));
+    ascending = subst (λ (q : Pending). IsAscending 0 (length q.given) q.ready) (sym queue_is) (ascending-appended p.queue (signal ∷ []) k.ascending);
     journal_room = (let r : queue.room ≡ p.queue.room = ap (λ (q : Pending). q.room) queue_is in omega (arith, k.journal_room, r));
     actors = (let c = ap created_in rest.flight in omega (arith, k.actors, c, filling.used_is));
     used_room = omega (arith, k.used_room, filling.used_is, room);

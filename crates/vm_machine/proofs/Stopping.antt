@@ -103,6 +103,7 @@ module _ (p : Parts) (k : Kept p) (who : W) (named : Among who (names p.sheet.ro
     queue_room = k.queue_room;
     counts = k.counts;
     given_room = k.given_room;
+    ascending = k.ascending;
     journal_room = k.journal_room;
     actors = (let c = ap created_in rest.flight in omega (arith, k.actors, c, same-used));
     used_room = omega (arith, k.used_room, same-used, keeps.same_room);

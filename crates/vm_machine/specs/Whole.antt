@@ -8,6 +8,7 @@ use Rattle.instr_table.specs.Reach.{Every}
 use Rattle.vm_sponsor.specs.Grant.{is_grant}
 use Rattle.vm_sponsor.specs.Ledger.{names}
 use Rattle.vm_step.specs.Books.{Books}
+use Rattle.event_queue.specs.Pending.{IsAscending}
 use Rattle.vm_step.specs.Step.{sheet_in}
 use Rattle.vm_turn.specs.State.{State}
 use Rattle.vm_turn.specs.Turn.{first_to_go}
@@ -39,6 +40,7 @@ pub record Kept (p : Parts) : Type 0 where
   pub queue_room : p.queue.room ≡ p.grant.events + 1
   pub counts : length p.journal.items + length p.flight.items + length p.queue.ready ≡ length p.queue.given
   pub given_room : length p.queue.given ≤ p.queue.room
+  pub ascending : IsAscending 0 (length p.queue.given) p.queue.ready
   pub journal_room : p.queue.room ≤ vec_capacity p.journal
   pub actors : length p.roll.items + created_in (flight_of p.quads.store p.flight.items) ≤ used p.quads.store
   pub used_room : used p.quads.store ≤ p.quads.room
