@@ -14,3 +14,4 @@ mod Stopping
 mod Releasing
 mod Exhausting
 mod Standing
+mod Searching
