@@ -37,7 +37,7 @@ struct Behaviour {
 ///
 /// A message takes one quad, which is its event, and an actor one. The lists are linked in these cells, so that the record has a fixed
 /// size: an event by its `next`, an actor by its mark.
-#[derive(Drop)]
+#[derive(Clone, Copy)]
 pub struct Effects {
     sent: Chain,
     created: Chain,

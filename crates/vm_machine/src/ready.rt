@@ -1,6 +1,7 @@
 // Which message goes next.
 
-ghost use Rattle.std.specs.Prelude.{◌≡◌, option_map};
+ghost use Rattle.std.specs.Prelude.{◌≡◌, ◌<◌, length, option_map, IfSome};
+ghost use Rattle.event_queue.specs.Starts.{StartsFirst};
 ghost use Rattle.vm_turn.specs.State.{Message};
 ghost use Rattle.vm_turn.specs.Turn.{dispatchable};
 ghost use Rattle.vm_machine.specs.View.{state_of};
@@ -13,6 +14,8 @@ pub(crate) fn next_ready(parts: &mut Parts) -> Option<u32>
     requires whole { Whole parts.old }
     ensures whole { Whole parts.new }
     ensures state { state_of parts.new ≡ state_of parts.old }
+    ensures same { parts.new ≡ record parts.old { stuck = parts.new.stuck } }
+    ensures first { IfSome result (λ n. (length parts.old.flight.items < parts.old.lanes) × StartsFirst parts.old.quads.store parts.old.queue n) }
     ensures found { result ≡ option_map (λ (m : Message). m.number) (dispatchable (state_of parts.old)) }
 {
     if parts.stuck || parts.flight.len() >= parts.lanes as usize {

@@ -18,7 +18,7 @@ pub enum StepEnd {
 }
 
 /// An event in flight.
-#[derive(Drop)]
+#[derive(Clone, Copy)]
 pub struct Lane {
     /// The number of its message.
     pub number: u32,
