@@ -15,3 +15,4 @@ mod Releasing
 mod Exhausting
 mod Standing
 mod Searching
+mod Beginning

@@ -56,7 +56,7 @@ kept-stuck p b k = record {
 }
 
 -- each sponsor in the store has a row
-cell-sponsor : (s : Store) (w : W) (c : SponsorCell) → sponsor_at s w ≡ Some c → is_sponsor (seen s) w ≡ true
+pub cell-sponsor : (s : Store) (w : W) (c : SponsorCell) → sponsor_at s w ≡ Some c → is_sponsor (seen s) w ≡ true
 unfolding look_up
 cell-sponsor s (Fix n) c h = cc
 cell-sponsor s (Rom n) c h = cc

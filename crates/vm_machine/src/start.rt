@@ -1,8 +1,8 @@
 // Messages that are dispatched.
 
-ghost use Rattle.std.specs.Prelude.{◌≡◌, ◌+◌, ◌<◌, ◌≤◌, Some, true, length, slice_get, [], ◌∷◌, ◌++◌, vec_len, vec_capacity};
+ghost use Rattle.std.specs.Prelude.{◌≡◌, ◌+◌, ◌<◌, ◌≤◌, Some, true, pos, length, slice_get, [], ◌∷◌, ◌++◌, vec_len, vec_capacity};
 ghost use Rattle.std.specs.List.{Contains};
-ghost use Rattle.cap_words.specs.Words.{W, undef};
+ghost use Rattle.cap_words.specs.Words.{W, Fix, undef};
 ghost use Rattle.cap_words.specs.Seen.{ActorSlot, EventSlot, seen, slot_seen};
 ghost use Rattle.quad_memory.specs.Cells.{actor_at, event_at};
 ghost use Rattle.vm_turn.specs.Actors.{sent_at};
@@ -33,7 +33,7 @@ fn begin(parts: &mut Parts, number: u32, event: Word)
     parts.quads.set_actor(
         target,
         ActorCell {
-            mark: Word::number_word(number as i32),
+            mark: busy_mark(number),
             ..actor
         },
     );
@@ -83,4 +83,12 @@ fn actor_cell(quads: &Quads, actor: Word) -> ActorCell
         Some(cell) => cell,
         None => unreachable!(),
     }
+}
+
+// The mark of an actor that is busy with the message of that number.
+fn busy_mark(number: u32) -> Word
+    requires { number ≤ 4194304 }
+    ensures { result ≡ Fix (pos number) }
+{
+    Word::number_word(number as i32)
 }

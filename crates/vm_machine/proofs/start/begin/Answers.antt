@@ -1,32 +1,54 @@
-use Rattle.std.proofs.Common.{rules, ◌≡◌, ◌+◌, ◌<◌, ◌≤◌, Some, true, length, slice_get, [], ◌∷◌, ◌++◌, vec_len, vec_capacity, ℕ, ◌-◌, ◌*◌, ◌/◌, ◌%◌, Bool, false, nat_eq, nat_lt, List, slice_index_or, slice_set, bit_and, bit_or, Fits, w8, w32, w64, Bor, MutBor, ℤ, pos, ◌+ℤ◌, ◌-ℤ◌, ◌*ℤ◌, ◌≤ℤ◌, ◌<ℤ◌, FitsSigned, to_z, of_z}
-use Rattle.std.specs.List.{Contains}
-use Rattle.cap_words.specs.Words.{W, undef}
-use Rattle.cap_words.specs.Seen.{ActorSlot, EventSlot, seen, slot_seen}
-use Rattle.quad_memory.specs.Cells.{actor_at, event_at}
-use Rattle.vm_turn.specs.Actors.{sent_at}
-use Rattle.vm_turn.specs.Turn.{begin}
-use Rattle.event_queue.specs.Starts.{can_start}
+use Rattle.std.proofs.Common.{◌≡◌, ℕ, ◌+◌, ◌<◌, ◌≤◌, ◌∷◌, [], ◌++◌, length, List, Some, ap, sym, ◌∙◌, refl, subst, arith, pos, vec_len}
+use Rattle.std.specs.Prelude.{slice_get, IsTrue}
+use Rattle.std.proofs.lemmas.Option.{slice_get_within}
+use Rattle.cap_words.specs.Words.{W, Fix, nil, undef}
+use Rattle.cap_words.specs.Store.{cap_place}
+use Rattle.cap_words.specs.Seen.{ActorSlot, seen, slot_seen, altered}
+use Rattle.cap_words.specs.Frame.{Framed}
 use Rattle.vm_step.specs.declared.lane.Lane.{Lane}
-use Rattle.vm_machine.specs.View.{state_of}
-use Rattle.vm_machine.specs.Whole.{Kept}
+use Rattle.vm_machine.proofs.Beginning.{startable, startable-target, actor-marked, few-events, kept-begun, state-begun}
 use Rattle.vm_machine.proofs.start.begin.Goals as goal
 
--- src/start.rt:32:9
 pub actor_cell-actor-requires : goal.actor_cell-actor-requires
-actor_cell-actor-requires c = ?
+actor_cell-actor-requires c =
+    let s = c.args.parts.now.quads.store in
+    let can = startable s c.args.event c.requires.starts in
+    (can.code, can.state, ap (slot_seen (seen s)) (startable-target s c.args.event c.event_cell.result can c.event_cell.ensures) ∙ can.actor)
 
--- src/start.rt:36:37
-pub overflow_cast-number : goal.overflow_cast-number
-overflow_cast-number c = ?
+pub busy_mark-requires : goal.busy_mark-requires
+busy_mark-requires c =
+    let p = c.args.parts.now in
+    let k = c.requires.kept in
+    let within = slice_get_within p.queue.given c.args.number c.args.event c.requires.event in
+    let few = few-events p.grant.memory p.grant.events p.grant.cycles k.granted in
+    omega (arith, within, few, k.given_room, k.queue_room)
 
--- src/start.rt:36:19
-pub number_word-requires : goal.number_word-requires
-number_word-requires c = ?
-
--- src/start.rt:22:1
 pub returns-clause-kept : goal.returns-clause-kept
-returns-clause-kept c = ?
+returns-clause-kept c =
+    let p = c.args.parts.now in
+    let s = p.quads.store in
+    let can = startable s c.args.event c.requires.starts in
+    let target = startable-target s c.args.event c.event_cell.result can c.event_cell.ensures in
+    let there = ap (slot_seen (seen s)) target ∙ can.actor in
+    let m = actor-marked p.quads c.set_actor.new.self c.event_cell.result.target can.code can.state c.actor_cell-actor.result c.busy_mark.result (pos c.args.number) there c.actor_cell-actor.ensures c.busy_mark.ensures c.set_actor.ensures in
+    let x = c.begin.result in
+    kept-begun p c.requires.kept c.args.number c.args.event c.requires.free c.requires.ready c.requires.event can c.set_actor.new.self c.remove.new.self c.add_lane.new.flight x
+        c.begin.ensures.effects c.begin.ensures.linked
+        (subst (λ (w : W). Framed s c.set_actor.new.self.store (w ∷ [])) target m.1) (m.0 ∙ ap (λ (w : W). altered (seen s) (cap_place w) (ActorSlot can.code can.state (Fix (pos c.args.number)))) target) m.2
+        c.remove.ensures
+        (c.add_lane.ensures.items ∙ ap (λ (w : W). p.flight.items ++ record { number = c.args.number; event = c.args.event; code = w; stack = nil; depth = 0; effects = x } ∷ []) m.3) c.add_lane.ensures.len c.add_lane.ensures.capacity
 
--- src/start.rt:22:1
 pub returns-clause-state : goal.returns-clause-state
-returns-clause-state c = ?
+returns-clause-state c =
+    let p = c.args.parts.now in
+    let s = p.quads.store in
+    let can = startable s c.args.event c.requires.starts in
+    let target = startable-target s c.args.event c.event_cell.result can c.event_cell.ensures in
+    let there = ap (slot_seen (seen s)) target ∙ can.actor in
+    let m = actor-marked p.quads c.set_actor.new.self c.event_cell.result.target can.code can.state c.actor_cell-actor.result c.busy_mark.result (pos c.args.number) there c.actor_cell-actor.ensures c.busy_mark.ensures c.set_actor.ensures in
+    let x = c.begin.result in
+    state-begun p c.requires.kept c.args.number c.args.event c.requires.free c.requires.ready c.requires.event can c.set_actor.new.self c.remove.new.self c.add_lane.new.flight x
+        c.begin.ensures.effects c.begin.ensures.linked
+        (subst (λ (w : W). Framed s c.set_actor.new.self.store (w ∷ [])) target m.1) (m.0 ∙ ap (λ (w : W). altered (seen s) (cap_place w) (ActorSlot can.code can.state (Fix (pos c.args.number)))) target) m.2
+        c.remove.ensures
+        (c.add_lane.ensures.items ∙ ap (λ (w : W). p.flight.items ++ record { number = c.args.number; event = c.args.event; code = w; stack = nil; depth = 0; effects = x } ∷ []) m.3) c.add_lane.ensures.len c.add_lane.ensures.capacity
