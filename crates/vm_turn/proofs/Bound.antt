@@ -110,7 +110,11 @@ bit_under n false = omega arith
 at_most_one : (grant : Amounts) (s t : State) (b : Bool) → Good grant s t 1 → Good grant s t (if b then 1 else 0)
 at_most_one grant s t b g = record { sound = g.sound; rises = le_trans (bit_under (mass s) b) g.rises }
 
-placed-of : {grant : Amounts} (s : State) → Sound grant s → Placed s
+-- the events of the state, and the quads that are taken
+abbrev EventsOnce : State → Type 0
+EventsOnce s = Placed (λ (w : W). places w s) (length s.store.slots)
+
+placed-of : {grant : Amounts} (s : State) → Sound grant s → EventsOnce s
 placed-of s ok = record { once = ok.once; taken = ok.events_taken }
 
 listed-of : {grant : Amounts} (s : State) → Sound grant s → Listed s.store (sponsors s.sheet)
@@ -124,7 +128,7 @@ at_most : (m n : ℕ) → n ≡ m → m ≤ n
 at_most m n e = omega (arith, e)
 
 -- a prepared signal becomes a message; `before` is the state in which it was prepared
-released-good : {grant : Amounts} (before : State) (o : Option W) (kind : Quota) (u : State) → Sound grant u → u.next_number + sends_in how_many u.flight + signals_in how_many u.sheet + length (as_list o) ≤ 1 + spent_by_all Events u.sheet → Placed before → length before.store.slots ≤ length u.store.slots → ((w : W) → places w u + times w (as_list o) ≤ places w before) → Good grant u (released o kind u) 0
+released-good : {grant : Amounts} (before : State) (o : Option W) (kind : Quota) (u : State) → Sound grant u → u.next_number + sends_in how_many u.flight + signals_in how_many u.sheet + length (as_list o) ≤ 1 + spent_by_all Events u.sheet → EventsOnce before → length before.store.slots ≤ length u.store.slots → ((w : W) → places w u + times w (as_list o) ≤ places w before) → Good grant u (released o kind u) 0
 released-good before None kind u ok left p up less = record { sound = ok; rises = omega arith }
 released-good before (Some w) kind u ok left p up less =
     let signal : Message = record { number = u.next_number; event = w } in
@@ -140,7 +144,7 @@ released-good before (Some w) kind u ok left p up less =
     let d = (how_often v).more (message_words u.messages) (w ∷ []) in
     let g = less v in
     omega (arith, e, d, g) in
-    let r = placed-same before t (omega (arith, up, k)) places_of p in
+    let r = placed-same (λ (v : W). places v before) (λ (v : W). places v t) (length before.store.slots) (length t.store.slots) (omega (arith, up, k)) places_of p in
     record {
       sound = record {
         conserved = ok.conserved;
@@ -199,7 +203,7 @@ module _ (grant : Amounts) (s : State) (ok : Sound grant s) where
       let a = alike-busy s.store x.target m.number in
       let k = a.as_many in
       let li = listed-still s t.store ok a in
-      let pl = placed-same s t (at_most _ _ k) (λ w. let e = sum_by_push (λ (l : Lane). times w (sent_by l)) s.flight l in omega (arith, e)) (placed-of s ok) in
+      let pl = placed-same (λ (w : W). places w s) (λ (w : W). places w t) (length s.store.slots) (length t.store.slots) (at_most _ _ k) (λ w. let e = sum_by_push (λ (l : Lane). times w (sent_by l)) s.flight l in omega (arith, e)) (placed-of s ok) in
       record {
         sound = record {
           conserved = ok.conserved;
@@ -225,7 +229,7 @@ module _ (grant : Amounts) (s : State) (ok : Sound grant s) where
       let t = delivered s m.number end bytes in
       let j = length-append s.journal (entry m.number end ∷ []) in
       let f = fewer s.messages m.number h.has in
-      let pl = placed-same s t (omega arith) (λ w. let e = without-words (how_often w) m.number s.messages in omega (arith, e)) (placed-of s ok) in
+      let pl = placed-same (λ (w : W). places w s) (λ (w : W). places w t) (length s.store.slots) (length t.store.slots) (omega arith) (λ w. let e = without-words (how_often w) m.number s.messages in omega (arith, e)) (placed-of s ok) in
       record {
         sound = record {
           conserved = ok.conserved;
@@ -292,7 +296,7 @@ module _ (grant : Amounts) (s : State) (ok : Sound grant s) where
       let b : signals_in (how_often w) sheet ≤ signals_in (how_often w) s.sheet + 0 = f.prepared_of (how_often w) in
       let d = finish-places w i l sheet x end 0 at (omega (arith, b)) (few (how_often w)) in
       omega (arith, d) in
-      let pl = placed-same s u (at_most _ _ k) less (placed-of s ok) in
+      let pl = placed-same (λ (w : W). places w s) (λ (w : W). places w u) (length s.store.slots) (length u.store.slots) (at_most _ _ k) less (placed-of s ok) in
       record {
         sound = record {
           conserved = λ kind. f.same_total kind ∙ ok.conserved kind;
@@ -348,7 +352,7 @@ module _ (grant : Amounts) (s : State) (ok : Sound grant s) where
       let d : signals_in (how_often w) sheet ≤ signals_in (how_often w) s.sheet + 0 = f.prepared_of (how_often w) in
       let e : signals_in (how_often w) u.sheet ≤ signals_in (how_often w) sheet + times w (prepares g.effect) = x.prepared_of (how_often w) in
       omega (arith, a, b, d, e) in
-      let pl = placed-named s u g.made (named g.effect) higher (named-next l.own.sponsor controller s.store g.made g.effect made) less (placed-of s ok) in
+      let pl = placed-named (λ (w : W). places w s) (λ (w : W). places w u) s.store (length u.store.slots) g.made (named g.effect) higher (named-next l.own.sponsor controller s.store g.made g.effect made) less (placed-of s ok) in
       record {
         sound = record {
           conserved = λ kind. x.same_total kind ∙ (f.same_total kind ∙ ok.conserved kind);

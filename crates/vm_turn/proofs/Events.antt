@@ -12,8 +12,7 @@ use Rattle.instr_table.specs.Event.{Sent, Effects, Effect, Nothing, Sends, Creat
 use Rattle.instr_table.specs.Outcome.{events_in}
 use Rattle.instr_table.specs.Making.{MadeWith}
 use Rattle.vm_effects.specs.Gathered.{sent_words}
-use Rattle.vm_turn.specs.State.{State}
-use Rattle.vm_turn.specs.Sound.{times, places, NamesOne}
+use Rattle.vm_turn.specs.Sound.{times, NamesOne}
 use Rattle.vm_turn.proofs.Sums.{Measure}
 use Rattle.vm_turn.proofs.Sheets.{prepares}
 
@@ -85,16 +84,16 @@ names-more m n (Rom k) h t = absurd t
 names-more m n (Ram k) h t = absurd t
 names-more m n (Cap k) h t = omega (arith, h, t)
 
--- what holds of the places: each word once, and each that stands somewhere names a quad
-pub record Placed (s : State) : Type 0 where
-  pub once : (w : W) → places w s ≤ 1
-  pub taken : (w : W) → 1 ≤ places w s → NamesOne (length s.store.slots) w
+-- what is counted of words: of each at most one, and of those alone that name one of the first n quads
+pub record Placed (c : W → ℕ) (n : ℕ) : Type 0 where
+  pub once : (w : W) → c w ≤ 1
+  pub taken : (w : W) → 1 ≤ c w → NamesOne n w
 
--- nothing comes to a place
-pub placed-same : (s t : State) → length s.store.slots ≤ length t.store.slots → ((w : W) → places w t ≤ places w s) → Placed s → Placed t
-placed-same s t up less p = record {
+-- no more is counted
+pub placed-same : (c d : W → ℕ) (m n : ℕ) → m ≤ n → ((w : W) → d w ≤ c w) → Placed c m → Placed d n
+placed-same c d m n up less p = record {
   once = λ w. let a = less w in let b = p.once w in omega (arith, a, b);
-  taken = λ w h. let a = less w in names-more (length s.store.slots) (length t.store.slots) w up (p.taken w (omega (arith, a, h)));
+  taken = λ w h. let a = less w in names-more m n w up (p.taken w (omega (arith, a, h)));
 }
 
 abbrev bit : Bool → ℕ
@@ -113,36 +112,33 @@ bit-one false = omega arith
 pub times-one : (v w : W) → times w (v ∷ []) ≤ 1
 times-one v w = let e = times-bit v w in let o = bit-one (same_word v w) in omega (arith, e, o)
 
--- the quad that is taken next comes to one
-pub placed-next : (s t : State) → length s.store.slots < length t.store.slots → ((w : W) → places w t ≤ places w s + times w (Cap (length s.store.slots) ∷ [])) → Placed s → Placed t
-placed-next s t up less p = record { once = λ w. once w (same_word new w) refl; taken = λ w h. taken w h (same_word new w) refl }
+-- the quad that is taken next is counted once more
+pub placed-next : (c d : W → ℕ) (m n : ℕ) → m < n → ((w : W) → d w ≤ c w + times w (Cap m ∷ [])) → Placed c m → Placed d n
+placed-next c d m n up less p = record { once = λ w. once w (same_word (Cap m) w) refl; taken = λ w h. taken w h (same_word (Cap m) w) refl }
   where
-    new : W
-    new = Cap (length s.store.slots)
-
-    nowhere : (w : W) → new ≡ w → places w s ≡ 0
-    nowhere w e = by (places w s) refl
+    nowhere : (w : W) → Cap m ≡ w → c w ≡ 0
+    nowhere w e = by (c w) refl
       where
-        by : (k : ℕ) → places w s ≡ k → k ≡ 0
+        by : (k : ℕ) → c w ≡ k → k ≡ 0
         by zero h = refl
         by (suc k) h =
-            let t : NamesOne (length s.store.slots) new = subst (NamesOne (length s.store.slots)) (sym e) (p.taken w (omega (arith, h))) in
+            let t : NamesOne m (Cap m) = subst (NamesOne m) (sym e) (p.taken w (omega (arith, h))) in
             absurd (omega (arith, t))
 
-    once : (w : W) (b : Bool) → same_word new w ≡ b → places w t ≤ 1
-    once w true e = let a = less w in let z = nowhere w (word_same new w e) in let o = times-one new w in omega (arith, a, z, o)
-    once w false e = let a = less w in let z = times-none new w e in let o = p.once w in omega (arith, a, z, o)
+    once : (w : W) (b : Bool) → same_word (Cap m) w ≡ b → d w ≤ 1
+    once w true e = let a = less w in let z = nowhere w (word_same (Cap m) w e) in let o = times-one (Cap m) w in omega (arith, a, z, o)
+    once w false e = let a = less w in let z = times-none (Cap m) w e in let o = p.once w in omega (arith, a, z, o)
 
-    taken : (w : W) → 1 ≤ places w t → (b : Bool) → same_word new w ≡ b → NamesOne (length t.store.slots) w
-    taken w h true e = subst (NamesOne (length t.store.slots)) (word_same new w e) up
-    taken w h false e = let a = less w in let z = times-none new w e in names-more (length s.store.slots) (length t.store.slots) w (omega (arith, up)) (p.taken w (omega (arith, a, z, h)))
+    taken : (w : W) → 1 ≤ d w → (b : Bool) → same_word (Cap m) w ≡ b → NamesOne n w
+    taken w h true e = subst (NamesOne n) (word_same (Cap m) w e) up
+    taken w h false e = let a = less w in let z = times-none (Cap m) w e in names-more m n w (omega (arith, up)) (p.taken w (omega (arith, a, z, h)))
 
--- an event that an effect makes, if any, comes to one
-pub placed-named : (s t : State) (made : List Slot) (ws : List W) → length s.store.slots + length made ≤ length t.store.slots → IsNext s.store made ws → ((w : W) → places w t ≤ places w s + times w ws) → Placed s → Placed t
-placed-named s t made ws up (inl e) less p = placed-same s t (omega (arith, up)) (λ w. let a : times w ws ≡ times w [] = ap (λ (vs : List W). times w vs) e in let b = less w in omega (arith, a, b)) p
-placed-named s t made ws up (inr h) less p = let k = h.1 in placed-next s t (omega (arith, up, k)) (λ w. subst (λ (vs : List W). places w t ≤ places w s + times w vs) h.0 (less w)) p
+-- the quad that an effect names, if any, is counted once more
+pub placed-named : (c d : W → ℕ) (s : Seen) (n : ℕ) (made : List Slot) (ws : List W) → length s.slots + length made ≤ n → IsNext s made ws → ((w : W) → d w ≤ c w + times w ws) → Placed c (length s.slots) → Placed d n
+placed-named c d s n made ws up (inl e) less p = placed-same c d (length s.slots) n (omega (arith, up)) (λ w. let a : times w ws ≡ times w [] = ap (λ (vs : List W). times w vs) e in let b = less w in omega (arith, a, b)) p
+placed-named c d s n made ws up (inr h) less p = let k = h.1 in placed-next c d (length s.slots) n (omega (arith, up, k)) (λ w. subst (λ (vs : List W). d w ≤ c w + times w vs) h.0 (less w)) p
 
--- ---- what it says of single places
+-- ---- words that are counted
 
 pub times-cons : (v w : W) (ws : List W) → times w ws ≤ times w (v ∷ ws)
 times-cons v w ws = omega (arith, sum_by-cons (λ (v : W). bit (same_word v w)) v ws)

@@ -1,5 +1,5 @@
 -- Worked runs of small images.
-use Rattle.std.proofs.Common.{◌≡◌, ℕ, suc, pos, negsuc, List, [], ◌∷◌, ◌++◌, replicate, Some, None, refl, ◌∙◌}
+use Rattle.std.proofs.Common.{◌≡◌, ℕ, suc, pos, negsuc, List, [], ◌∷◌, ◌++◌, replicate, Option, Some, None, slice_get, refl, ◌∙◌}
 use Rattle.std.specs.Prelude.{map, codes}
 use Rattle.std.specs.Fmt.{digits}
 use Rattle.std.proofs.Math.Utf8.{encode}
@@ -15,7 +15,7 @@ use Rattle.instr_table.specs.Types.{look_up}
 use Rattle.instr_table.specs.Lists.{pair_quad}
 use Rattle.instr_table.specs.Spelling.{spelled}
 use Rattle.instr_table.specs.Sheet.{Amount, Account, Running, Stopped, account}
-use Rattle.instr_table.specs.Lane.{Lane}
+use Rattle.instr_table.specs.Lane.{Lane, begun}
 use Rattle.vm_turn.specs.declared.journal.Entry.{Entry}
 use Rattle.vm_turn.specs.declared.journal.Outcome.TheVariants.{Committed, Failed, RanOut}
 use Rattle.vm_turn.specs.declared.journal.Turn.{Turn as Answer}
@@ -25,6 +25,7 @@ use Rattle.vm_turn.specs.Boot.{booted}
 use Rattle.vm_turn.specs.Piece.{tree_to, piece}
 use Rattle.vm_turn.specs.Turn.{entry, turn}
 use Rattle.vm_turn.specs.Run.{after, run, answers, completed, picks}
+use Rattle.vm_turn.specs.Authority.{EventOf, made_since, handed_on}
 
 -- an image that begins with its first cell
 abbrev image : List Quad → RomImage
@@ -144,8 +145,11 @@ unfolding piece tree_to look_up
 writes_no_actor = refl
 
 -- a created actor whose code is a device's number is no device
+abbrev creates : RomImage
+creates = listing (p 7 ∷ Push nil ∷ p 0 ∷ ActorCreate ∷ ActorSend ∷ End (pos 1) ∷ [])
+
 abbrev poses_as_a_device : Machine
-poses_as_a_device = run (listing (p 7 ∷ Push nil ∷ p 0 ∷ ActorCreate ∷ ActorSend ∷ End (pos 1) ∷ [])) (grant 100 10 100) 1 (zeros 10)
+poses_as_a_device = run creates (grant 100 10 100) 1 (zeros 10)
 
 writes_nothing : told poses_as_a_device ≡ tells [] (entry 0 Committed ∷ entry 1 (Failed (Fix (pos 16))) ∷ []) 6 1 7
 unfolding piece tree_to look_up
@@ -204,12 +208,13 @@ watched-is s (p ∷ ps) = once_told-is (turn s p).1 (λ u. watched (turn s p).0 
 
 -- ---- a sponsor that runs out, and its controller
 
-abbrev spin : RomImage
-spin = image (
+-- a sponsor gets so much memory and so many cycles; the event under it takes the last instructions, from cell 39 on
+abbrev spin_with : ℕ → ℕ → List Quad → RomImage
+spin_with memory cycles loop = image (
     spelled SponsorNew (Rom 17) ∷
-    spelled (p 1000) (Rom 18) ∷
+    spelled (p memory) (Rom 18) ∷
     spelled (SponsorGrant (pos 1)) (Rom 19) ∷
-    spelled (p 50) (Rom 20) ∷
+    spelled (p cycles) (Rom 20) ∷
     spelled (SponsorGrant (pos 3)) (Rom 21) ∷
     spelled (Dup (pos 1)) (Rom 22) ∷
     spelled (My (pos 0)) (Rom 23) ∷
@@ -229,7 +234,10 @@ spin = image (
     spelled (State (pos 1)) (Rom 37) ∷
     spelled ActorSend (Rom 38) ∷
     spelled (End (pos 1)) undef ∷
-    spelled Debug (Rom 39) ∷ [])
+    loop)
+
+abbrev spin : RomImage
+spin = spin_with 1000 50 (spelled Debug (Rom 39) ∷ [])
 
 abbrev spin_start : Machine
 spin_start = booted spin (grant 1048576 65536 16777216) 1
@@ -257,6 +265,29 @@ spin-amounts : spun.sheet ≡
     record { sponsor = Cap 8; memory = amount 1000 0 0 1000; events = amount 0 0 0 0; cycles = amount 50 0 50 0; standing = Stopped } ∷ []
 unfolding piece tree_to look_up watched
 spin-amounts = refl
+
+-- a sponsor without memory, and one without events
+abbrev pushes : Machine
+pushes = watched (booted (spin_with 2 50 (spelled (p 1) (Rom 39) ∷ [])) (grant 1000 100 1000) 1) (zeros 40)
+
+pushes-tells : pushes.output ≡ codes "1" ++ 10 ∷ []
+unfolding piece tree_to look_up digits watched
+pushes-tells = refl
+
+abbrev sends : Machine
+sends = watched (booted (spin_with 9 50 (spelled (p 1) (Rom 40) ∷ spelled (My (pos 0)) (Rom 41) ∷ spelled ActorSend undef ∷ [])) (grant 1000 100 1000) 1) (zeros 40)
+
+sends-tells : sends.output ≡ codes "2" ++ 10 ∷ []
+unfolding piece tree_to look_up digits watched
+sends-tells = refl
+
+-- a device that refuses
+abbrev says_a_number : Machine
+says_a_number = run (listing (p 5 ∷ State (pos 2) ∷ ActorSend ∷ End (pos 1) ∷ [])) (grant 100 10 100) 1 (zeros 8)
+
+refuses_the_number : told says_a_number ≡ tells [] (entry 0 Committed ∷ entry 1 (Failed (Fix (pos 8))) ∷ []) 3 1 4
+unfolding piece tree_to look_up
+refuses_the_number = refl
 
 -- ---- three lanes
 
@@ -293,6 +324,24 @@ both_create : second_first.roll ≡ Cap 6 ∷ Cap 2 ∷ Cap 3 ∷ Cap 10 ∷ Cap
 unfolding piece tree_to look_up watched
 both_create = refl
 
+-- with one lane the second worker waits for the first
+abbrev one_lane : Machine
+one_lane = watched (booted two_workers (grant 100 10 100) 1) (zeros 16)
+
+one_in_flight : numbers one_lane.flight ≡ 1 ∷ []
+unfolding piece tree_to look_up watched
+one_in_flight = refl
+
+-- ---- a stopped sponsor
+
+-- a message under a sponsor that was never started
+abbrev under_a_stopped_one : Machine
+under_a_stopped_one = run (listing (p 7 ∷ My (pos 0) ∷ SponsorNew ∷ ActorPost ∷ End (pos 1) ∷ [])) (grant 100 10 100) 1 (zeros 9)
+
+its_message_waits : told under_a_stopped_one ≡ tells [] (entry 0 Committed ∷ []) 6 1 5
+unfolding look_up
+its_message_waits = refl
+
 -- ---- a busy actor
 
 -- the first actor sends two messages to itself and then one to `println`, and takes another code
@@ -304,7 +353,15 @@ two_to_itself = listing (
 abbrev waited : Machine
 waited = watched (booted two_to_itself (grant 100 10 100) 3) (zeros 22)
 
--- the second message waits for its actor, and the third goes before it
+-- the second message waits for its actor while the first is in flight
+abbrev waiting : Machine
+waiting = watched (booted two_to_itself (grant 100 10 100) 3) (zeros 16)
+
+first_in_flight : numbers waiting.flight ≡ 1 ∷ []
+unfolding piece tree_to look_up watched
+first_in_flight = refl
+
+-- and the third goes before it
 later_goes_before : map (λ (e : Entry). e.message) waited.journal ≡ 0 ∷ 3 ∷ 1 ∷ 2 ∷ []
 unfolding piece tree_to look_up watched
 later_goes_before = refl
@@ -313,3 +370,29 @@ later_goes_before = refl
 
 first_picks : picks 0 3 ≡ 15470 ∷ 18256 ∷ 53708 ∷ []
 first_picks = refl
+
+-- ---- an event in a run
+
+abbrev lane_or : Option Lane → Lane
+lane_or None = begun 0 (record { sponsor = undef; actor = undef; code = undef; state = undef; message = undef })
+lane_or (Some l) = l
+
+-- the first actor creates one and sends it a message; this is its event, dispatched in the first turn, after five instructions
+abbrev first_lane : Lane
+first_lane = lane_or (slice_get (after (turn (booted creates (grant 100 10 100) 1) 0).0 (zeros 5)).flight 0)
+
+first_event : EventOf creates (grant 100 10 100) 1
+unfolding look_up
+first_event = record { before = []; message = record { number = 0; event = Cap 7 }; chosen = refl; pick = 0; begins = refl; since = zeros 5; place = 0; lane = first_lane; flies = refl; number_is = refl }
+
+it_commits : (turn (after (turn (booted creates (grant 100 10 100) 1) 0).0 (zeros 5)) 0).1 ≡ Finished (entry 0 Committed)
+unfolding look_up
+it_commits = refl
+
+it_made_an_actor : made_since (turn (booted creates (grant 100 10 100) 1) 0).0 0 (zeros 5) ≡ Cap 11 ∷ []
+unfolding look_up
+it_made_an_actor = refl
+
+it_hands_on : handed_on (turn (after (turn (booted creates (grant 100 10 100) 1) 0).0 (zeros 5)) 0).0.store first_lane ≡ Ram 5 ∷ Rom 16 ∷ Cap 11 ∷ Rom 1 ∷ Fix (pos 0) ∷ Cap 11 ∷ Fix (pos 7) ∷ []
+unfolding look_up
+it_hands_on = refl

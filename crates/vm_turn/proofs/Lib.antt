@@ -7,7 +7,14 @@ pub mod Slots
 pub mod Events
 pub mod Sponsors
 pub mod Bound
+pub mod TurnCases
+pub mod Taken
+pub mod WordsKept
 pub mod Places
 pub mod RunsSound
+pub mod Rights
 pub mod Changed
 pub mod Runs
+pub mod Started
+pub mod FlightActors
+pub mod Commits

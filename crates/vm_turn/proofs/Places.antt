@@ -78,7 +78,7 @@ rising-below first last [] i m r h = cc
 rising-below first last (k ∷ ms) zero m r h = let e : k.number ≡ m.number = ap (λ (x : Message). x.number) (some_is h) in let g = rising-last (suc k.number) last ms r.1 in omega (arith, e, g)
 rising-below first last (k ∷ ms) (suc i) m r h = rising-below (suc k.number) last ms i m r.1 h
 
-other-at : (n : ℕ) (ls : List Lane) (i : ℕ) (l : Lane) → Other n (numbers ls) → slice_get ls i ≡ Some l → l.number ≡ n → ⊥
+pub other-at : (n : ℕ) (ls : List Lane) (i : ℕ) (l : Lane) → Other n (numbers ls) → slice_get ls i ≡ Some l → l.number ≡ n → ⊥
 other-at n [] i l h a e = cc
 other-at n (k ∷ ls) zero l h a e = h.0 (ap (λ (x : Lane). x.number) (some_is a) ∙ e)
 other-at n (k ∷ ls) (suc i) l h a e = other-at n ls i l h.1 a e
@@ -90,7 +90,7 @@ distinct-one (x ∷ ls) zero (suc j) k l d a b e = let f : x.number ≡ k.number
 distinct-one (x ∷ ls) (suc i) zero k l d a b e = let f : x.number ≡ l.number = ap (λ (y : Lane). y.number) (some_is b) in absurd (other-at x.number ls i k d.0 a (e ∙ sym f))
 distinct-one (x ∷ ls) (suc i) (suc j) k l d a b e = ap suc (distinct-one ls i j k l d.1 a b e)
 
-has-place : (ms : List Message) (n : ℕ) → Has ms n → (p : ℕ) × (m : Message) × (slice_get ms p ≡ Some m) × (m.number ≡ n)
+pub has-place : (ms : List Message) (n : ℕ) → Has ms n → (p : ℕ) × (m : Message) × (slice_get ms p ≡ Some m) × (m.number ≡ n)
 has-place [] n h = absurd h
 has-place (k ∷ ms) n (inl e) = (0, k, refl, e)
 has-place (k ∷ ms) n (inr h) = let g = has-place ms n h in (suc g.0, g.1, g.2, g.3)

@@ -4,7 +4,7 @@ use Rattle.std.specs.Prelude.{slice_get, slice_set}
 use Rattle.cap_words.specs.declared.word.Quad.{Quad}
 use Rattle.cap_words.specs.Words.{W, Fix, Rom, Ram, Cap, undef}
 use Rattle.cap_words.specs.Store.{cap_place}
-use Rattle.cap_words.specs.Seen.{Seen, Slot, OpenSlot, ActorSlot, UnbornSlot, EventSlot, SponsorSlot, SpentSlot, cell_seen, slot_seen, altered, grown}
+use Rattle.cap_words.specs.Seen.{Seen, Slot, OpenSlot, ActorSlot, UnbornSlot, EventSlot, SponsorSlot, SpentSlot, cell_seen, open_in, slot_seen, altered, grown}
 use Rattle.cap_words.specs.Frame.{Among}
 use Rattle.instr_table.specs.Types.{Readable, opaque_in, look_up, shows_sponsor, is_sponsor}
 use Rattle.instr_table.specs.Lists.{pair_quad}
@@ -18,27 +18,42 @@ use Rattle.vm_turn.specs.Actors.{at_actor, remade, refilled, with_content, busy,
 use Rattle.vm_turn.proofs.Sums.{length-set}
 use Rattle.vm_turn.proofs.Sheets.{makes}
 
--- ---- the store with as many quads, and no sponsor more
+-- ---- the store with as many quads, and no sponsor or readable cell more
 
 abbrev pub IsNoSponsor : Slot → Type 0
 IsNoSponsor x = x ≡ SponsorSlot → ⊥
+
+-- neither a sponsor nor a readable cell
+abbrev pub IsInner : Slot → Type 0
+IsInner x = IsNoSponsor x × (open_in (Some x) ≡ None)
 
 -- each sponsor of the second list was one of the first, under that number
 abbrev pub SponsorsOf : List Slot → List Slot → Type 0
 SponsorsOf xs ys = (n : ℕ) → slice_get ys n ≡ Some SponsorSlot → slice_get xs n ≡ Some SponsorSlot
 
+-- and so was each readable cell
+abbrev pub CellsOf : List Slot → List Slot → Type 0
+CellsOf xs ys = (n : ℕ) (q : Quad) → open_in (slice_get ys n) ≡ Some q → open_in (slice_get xs n) ≡ Some q
+
 pub record Alike (s t : Seen) : Type 0 where
+  pub rom_is : t.rom ≡ s.rom
   pub as_many : length t.slots ≡ length s.slots
   pub sponsors_of : SponsorsOf s.slots t.slots
+  pub cells_of : CellsOf s.slots t.slots
 
 some_is : {x y : Slot} → Some x ≡ Some y → x ≡ y
 some_is h = cc
 
-alike-refl : (s : Seen) → Alike s s
-alike-refl s = record { as_many = refl; sponsors_of = λ n h. h }
+pub alike-refl : (s : Seen) → Alike s s
+alike-refl s = record { rom_is = refl; as_many = refl; sponsors_of = λ n h. h; cells_of = λ n q h. h }
 
-alike-then : (s t u : Seen) → Alike s t → Alike t u → Alike s u
-alike-then s t u a b = record { as_many = b.as_many ∙ a.as_many; sponsors_of = λ n h. a.sponsors_of n (b.sponsors_of n h) }
+pub alike-then : (s t u : Seen) → Alike s t → Alike t u → Alike s u
+alike-then s t u a b = record {
+  rom_is = b.rom_is ∙ a.rom_is;
+  as_many = b.as_many ∙ a.as_many;
+  sponsors_of = λ n h. a.sponsors_of n (b.sponsors_of n h);
+  cells_of = λ n q h. a.cells_of n q (b.cells_of n q h);
+}
 
 set-sponsors : (xs : List Slot) (k : ℕ) (x : Slot) → IsNoSponsor x → SponsorsOf xs (slice_set xs k x)
 set-sponsors [] k x isnt n h = h
@@ -47,30 +62,37 @@ set-sponsors (y ∷ xs) zero x isnt (suc n) h = h
 set-sponsors (y ∷ xs) (suc k) x isnt zero h = h
 set-sponsors (y ∷ xs) (suc k) x isnt (suc n) h = set-sponsors xs k x isnt n h
 
-pub alike-altered : (s : Seen) (k : ℕ) (x : Slot) → IsNoSponsor x → Alike s (altered s k x)
-alike-altered s k x isnt = record { as_many = length-set s.slots k x; sponsors_of = set-sponsors s.slots k x isnt }
+set-cells : (xs : List Slot) (k : ℕ) (x : Slot) → open_in (Some x) ≡ None → CellsOf xs (slice_set xs k x)
+set-cells [] k x closed n q h = h
+set-cells (y ∷ xs) zero x closed zero q h = cc
+set-cells (y ∷ xs) zero x closed (suc n) q h = h
+set-cells (y ∷ xs) (suc k) x closed zero q h = h
+set-cells (y ∷ xs) (suc k) x closed (suc n) q h = set-cells xs k x closed n q h
 
-pub alike-actor : (s : Seen) (w : W) (change : W → W → Slot) → ((code state : W) → IsNoSponsor (change code state)) → Alike s (at_actor s w change)
-alike-actor s w change isnt = by (slot_seen s w)
+pub alike-altered : (s : Seen) (k : ℕ) (x : Slot) → IsInner x → Alike s (altered s k x)
+alike-altered s k x i = record { rom_is = refl; as_many = length-set s.slots k x; sponsors_of = set-sponsors s.slots k x i.0; cells_of = set-cells s.slots k x i.1 }
+
+pub alike-actor : (s : Seen) (w : W) (change : W → W → Slot) → ((code state : W) → IsInner (change code state)) → Alike s (at_actor s w change)
+alike-actor s w change inner = by (slot_seen s w)
   where
     by : (o : Option Slot) → Alike s (remade o change w s)
     by None = alike-refl s
     by (Some (OpenSlot q)) = alike-refl s
-    by (Some (ActorSlot code state mark)) = alike-altered s (cap_place w) (change code state) (isnt code state)
+    by (Some (ActorSlot code state mark)) = alike-altered s (cap_place w) (change code state) (inner code state)
     by (Some UnbornSlot) = alike-refl s
     by (Some (EventSlot a b m)) = alike-refl s
     by (Some SponsorSlot) = alike-refl s
     by (Some SpentSlot) = alike-refl s
 
-busy-no : (number : ℕ) (code state : W) → IsNoSponsor (busy number code state)
-busy-no number code state h = cc
+busy-inner : (number : ℕ) (code state : W) → IsInner (busy number code state)
+busy-inner number code state = ((λ h. cc), refl)
 
-resting-no : (next : Option Behaviour) (code state : W) → IsNoSponsor (resting next code state)
-resting-no None code state h = cc
-resting-no (Some b) code state h = cc
+resting-inner : (next : Option Behaviour) (code state : W) → IsInner (resting next code state)
+resting-inner None code state = ((λ h. cc), refl)
+resting-inner (Some b) code state = ((λ h. cc), refl)
 
 pub alike-busy : (s : Seen) (w : W) (number : ℕ) → Alike s (at_actor s w (busy number))
-alike-busy s w number = alike-actor s w (busy number) (busy-no number)
+alike-busy s w number = alike-actor s w (busy number) (busy-inner number)
 
 pub alike-content : (s : Seen) (w content : W) → Alike s (with_content s w content)
 alike-content s w content = by (slot_seen s w)
@@ -80,7 +102,7 @@ alike-content s w content = by (slot_seen s w)
     by (Some (OpenSlot q)) = alike-refl s
     by (Some (ActorSlot code state mark)) = alike-refl s
     by (Some UnbornSlot) = alike-refl s
-    by (Some (EventSlot a b m)) = alike-altered s (cap_place w) (EventSlot a b content) (λ h. cc)
+    by (Some (EventSlot a b m)) = alike-altered s (cap_place w) (EventSlot a b content) ((λ h. cc), refl)
     by (Some SponsorSlot) = alike-refl s
     by (Some SpentSlot) = alike-refl s
 
@@ -88,12 +110,12 @@ alike-idle : (s : Seen) (ms : List Made) → Alike s (all_idle s ms)
 alike-idle s [] = alike-refl s
 alike-idle s (m ∷ ms) =
     let t = altered s (cap_place m.actor) (ActorSlot m.code m.state undef) in
-    alike-then s t (all_idle t ms) (alike-altered s (cap_place m.actor) (ActorSlot m.code m.state undef) (λ h. cc)) (alike-idle t ms)
+    alike-then s t (all_idle t ms) (alike-altered s (cap_place m.actor) (ActorSlot m.code m.state undef) ((λ h. cc), refl)) (alike-idle t ms)
 
 pub alike-settled : (s : Seen) (actor : W) (x : Effects) → Alike s (settled s actor x)
 alike-settled s actor x =
     let t = at_actor s actor (resting x.next) in
-    alike-then s t (all_idle t x.created) (alike-actor s actor (resting x.next) (resting-no x.next)) (alike-idle t x.created)
+    alike-then s t (all_idle t x.created) (alike-actor s actor (resting x.next) (resting-inner x.next)) (alike-idle t x.created)
 
 -- ---- more quads
 

@@ -21,16 +21,16 @@ pub record Listed (s : Seen) (ws : List W) : Type 0 where
   pub apart : Apart ws
   pub taken : (w : W) → Among w ws → NamesOne (length s.slots) w
 
-among-left : (w : W) (vs ws : List W) → Among w vs → Among w (vs ++ ws)
+pub among-left : (w : W) (vs ws : List W) → Among w vs → Among w (vs ++ ws)
 among-left w [] ws a = absurd a
 among-left w (v ∷ vs) ws (inl e) = inl e
 among-left w (v ∷ vs) ws (inr a) = inr (among-left w vs ws a)
 
-among-right : (w : W) (vs ws : List W) → Among w ws → Among w (vs ++ ws)
+pub among-right : (w : W) (vs ws : List W) → Among w ws → Among w (vs ++ ws)
 among-right w [] ws a = a
 among-right w (v ∷ vs) ws a = inr (among-right w vs ws a)
 
-among-of : (w : W) (vs ws : List W) → Among w (vs ++ ws) → Among w vs ⊎ Among w ws
+pub among-of : (w : W) (vs ws : List W) → Among w (vs ++ ws) → Among w vs ⊎ Among w ws
 among-of w [] ws a = inr a
 among-of w (v ∷ vs) ws (inl e) = inl (inl e)
 among-of w (v ∷ vs) ws (inr a) = by (among-of w vs ws a)

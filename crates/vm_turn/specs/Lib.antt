@@ -7,3 +7,4 @@ pub mod Run
 pub mod Sound
 pub mod Laws
 pub mod Changes
+pub mod Authority

@@ -2,6 +2,7 @@
 
 ghost use Rattle.vm_turn.specs.Laws.{TurnsEnd, AccountsAddUp, GrantsAreConserved, EventsStandOnce};
 ghost use Rattle.vm_turn.specs.Changes.{TurnsChange};
+ghost use Rattle.vm_turn.specs.Authority.{EventsHaveBegun, EventsKeepAuthority, CommitsKeepAuthority};
 
 /// A machine with C cycles and E events completes at most `C + 2 (E + 1)` turns, whatever its image, its lanes and its picks: each
 /// completed turn spends a cycle, dispatches a message or ends one.
@@ -31,4 +32,22 @@ pub fn events_stand_once()
 /// roll, output or other message changes. An event that runs out also stops its sponsor, whose prepared signal becomes a message.
 pub fn turns_change()
     ensures { TurnsChange }
+{}
+
+/// Each event that is in flight in a run was dispatched in one of its turns.
+pub fn events_have_begun()
+    ensures { EventsHaveBegun }
+{}
+
+/// At any moment of its flight an event gets at no actor or sponsor but those that its actor's code and state and its message got at when it
+/// was dispatched, its own actor, and those that it made since. So it is of each word on its stack, as the controller that it gives to
+/// `sponsor start`.
+pub fn events_keep_authority()
+    ensures { EventsKeepAuthority }
+{}
+
+/// After the turn that commits an event, what it handed on gets at no actor or sponsor but those: its actor's state and code, the actors that
+/// it created with theirs, and the targets, contents and other sponsors of the messages that it sent.
+pub fn commits_keep_authority()
+    ensures { CommitsKeepAuthority }
 {}

@@ -2,17 +2,26 @@
 //!
 //! `specs/` defines the state that an image boots to, what a device writes for a message, one turn of the machine, and runs of turns.
 //! The types of the journal and of a turn's answer stand here, since the definitions and the machine share them: `Entry`, `Outcome` and
-//! `Turn`. The laws are functions without a body: `turns_end` says how many turns can be completed, `turns_change` what a turn may change,
+//! `Turn`.
+//!
+//! The laws are functions without a body: `turns_end` says how many turns can be completed, `turns_change` what a turn may change,
 //! `accounts_add_up` what each account keeps, `grants_are_conserved` that what is spent and held is the grant, and `events_stand_once` that
-//! no event is at two places. `specs/Sound.antt` is what every turn keeps; the crates above keep it by `proofs/Bound.antt` and
-//! `proofs/RunsSound.antt`, and `proofs/Places.antt` says what it means for single messages, events and signals.
+//! no event stands at two places. `events_keep_authority` and `commits_keep_authority` say what an event gets at and hands on: what it had
+//! at its dispatch and what it made since; `events_have_begun` says that there was a dispatch.
+//!
+//! What every turn keeps is `Sound` and `FlightSound` in `specs/Sound.antt`, and `WordsTaken` in `specs/Authority.antt`. Crates above cite
+//! `proofs/Bound.antt`, `proofs/FlightActors.antt` and `proofs/WordsKept.antt` for that, `proofs/RunsSound.antt` for boot and runs,
+//! `proofs/TurnCases.antt` for a turn by its cases, and `proofs/Places.antt` for what it says of single messages, events and signals.
 #![tactic(auto)]
 
 mod journal;
 mod laws;
 
 pub use journal::{Entry, Outcome, Turn};
-pub use laws::{accounts_add_up, events_stand_once, grants_are_conserved, turns_change, turns_end};
+pub use laws::{
+    accounts_add_up, commits_keep_authority, events_have_begun, events_keep_authority,
+    events_stand_once, grants_are_conserved, turns_change, turns_end,
+};
 
 #[cfg(test)]
 mod tests;

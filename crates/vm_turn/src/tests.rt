@@ -1,6 +1,9 @@
 // Each law once: it has nothing to do.
 
-use crate::{accounts_add_up, events_stand_once, grants_are_conserved, turns_change, turns_end};
+use crate::{
+    accounts_add_up, commits_keep_authority, events_have_begun, events_keep_authority,
+    events_stand_once, grants_are_conserved, turns_change, turns_end,
+};
 
 #[test]
 fn laws_have_no_body(_rt: HostRuntime) {
@@ -9,4 +12,7 @@ fn laws_have_no_body(_rt: HostRuntime) {
     accounts_add_up();
     grants_are_conserved();
     events_stand_once();
+    events_have_begun();
+    events_keep_authority();
+    commits_keep_authority();
 }

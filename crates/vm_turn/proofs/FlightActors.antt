@@ -1,0 +1,472 @@
+-- Every turn keeps that the actors of events in flight are busy with them, and that what they created is not committed.
+use Rattle.std.proofs.Common.{◌≡◌, ◌⊎◌, inl, inr, ℕ, zero, suc, ◌%◌, Bool, true, false, List, [], ◌∷◌, ◌++◌, length, Option, Some, None, refl, sym, ap, subst, ◌∙◌, arith, if◌then◌else◌, append-nil, append_assoc, drop, nat_lt}
+use Rattle.std.specs.Prelude.{slice_get, slice_set, remove, pos, ◌&&◌, not}
+use Rattle.std.specs.List.{sum_by}
+use Rattle.std.proofs.lemmas.Bool.{cases_eq}
+use Rattle.std.proofs.lemmas.List.{map-append}
+use Rattle.std.proofs.lemmas.List.Sums.{sum_by_push}
+use Rattle.std.proofs.lemmas.Option.{slice_get_within}
+use Rattle.cap_words.specs.Words.{W, Fix, Rom, Ram, Cap, same_word, undef}
+use Rattle.cap_words.specs.Store.{cap_place}
+use Rattle.cap_words.specs.Seen.{Seen, Slot, OpenSlot, ActorSlot, UnbornSlot, EventSlot, SponsorSlot, SpentSlot, slot_seen, altered, grown}
+use Rattle.cap_words.specs.Frame.{Among}
+use Rattle.cap_words.proofs.Places.{get-left, get-seam, get-set_same, get-set_other}
+use Rattle.cap_words.proofs.Same.{word_same}
+use Rattle.quad_memory.specs.Image.{RomImage}
+use Rattle.instr_table.specs.declared.charge.Quota.{Quota}
+use Rattle.instr_table.specs.Code.{fetched}
+use Rattle.instr_table.specs.Lists.{next_quad, item}
+use Rattle.instr_table.specs.Event.{Sent, Made, Effects, no_effects, Effect, Nothing, Sends, Creates, Assigns, Becomes, Sponsors, Grants, Reclaims, Starts, Stops, with_effect, reassigned}
+use Rattle.instr_table.specs.Sheet.{Account, spend, stop, prepared, runs}
+use Rattle.instr_table.specs.Outcome.{Going}
+use Rattle.instr_table.specs.Lane.{Item, Lane, begun, values, lane_row, gone, after_going}
+use Rattle.instr_table.specs.Reach.{Every}
+use Rattle.instr_table.specs.Making.{MakesNamed, MadeWith}
+use Rattle.instr_table.proofs.GotWords.{every-append}
+use Rattle.instr_table.proofs.Authorities.{pushed-store}
+use Rattle.instr_table.proofs.Makings.{row_at-makes}
+use Rattle.vm_sponsor.specs.declared.amounts.Amounts.{Amounts}
+use Rattle.vm_effects.specs.Actors.{all_idle}
+use Rattle.vm_effects.specs.Gathered.{made_words}
+use Rattle.vm_turn.specs.declared.journal.Outcome.{Outcome as End}
+use Rattle.vm_turn.specs.declared.journal.Outcome.TheVariants.{Committed, Failed, RanOut}
+use Rattle.vm_turn.specs.State.{Message, State}
+use Rattle.vm_turn.specs.Actors.{sent_at, is_idle_in, is_idle, behaviour_in, behaviour_at, remade, at_actor, refilled, with_content, busy, resting, settled}
+use Rattle.vm_turn.specs.Turn.{is_in_flight, first_to_go, dispatchable, signal_number, own_of, begin, finish, go_on, released, run_out, turn}
+use Rattle.vm_turn.specs.Boot.{booted}
+use Rattle.vm_turn.specs.Run.{after, run}
+use Rattle.vm_turn.specs.Sound.{Sound, times, created_by, HasActors, FlightSound}
+use Rattle.vm_turn.proofs.Sums.{sum-removed, sum-set, sum-at, how_often}
+use Rattle.vm_turn.proofs.Numbers.{rest-other}
+use Rattle.vm_turn.proofs.Slots.{length-going, alike-busy, alike-settled}
+use Rattle.vm_turn.proofs.Events.{IsNext, Placed, placed-same, placed-named, times-among}
+use Rattle.vm_turn.proofs.Sponsors.{among-of}
+use Rattle.vm_turn.proofs.Bound.{turn-sound}
+use Rattle.vm_turn.proofs.RunsSound.{boot-sound}
+use Rattle.vm_turn.proofs.TurnCases.{EachKind, turn-by}
+use Rattle.vm_turn.proofs.Taken.{every-get}
+use Rattle.vm_turn.proofs.Places.{other-at}
+use Rattle.vm_turn.proofs.Rights.{at-removed, at-set, released-alike}
+
+-- ---- lists
+
+some_is : {X : Type 0} {x y : X} → Some x ≡ Some y → x ≡ y
+some_is h = cc
+
+every-by : {A : Type 0} (P : A → Type 0) (xs : List A) → ((i : ℕ) (x : A) → slice_get xs i ≡ Some x → P x) → Every P xs
+every-by P [] f = tt
+every-by P (x ∷ xs) f = (f zero x refl, every-by P xs (λ i y h. f (suc i) y h))
+
+-- ---- slots that a change leaves as they were
+
+actor-other : (s : Seen) (a : W) (change : W → W → Slot) (w : W) → (w ≡ a → ⊥) → slot_seen (at_actor s a change) w ≡ slot_seen s w
+actor-other s a change (Fix n) f = refl
+actor-other s a change (Rom n) f = refl
+actor-other s a change (Ram n) f = refl
+actor-other s (Fix k) change (Cap n) f = refl
+actor-other s (Rom k) change (Cap n) f = refl
+actor-other s (Ram k) change (Cap n) f = refl
+actor-other s (Cap k) change (Cap n) f = by (slice_get s.slots k)
+  where
+    by : (o : Option Slot) → slot_seen (remade o change (Cap k) s) (Cap n) ≡ slot_seen s (Cap n)
+    by None = refl
+    by (Some (OpenSlot q)) = refl
+    by (Some (ActorSlot code state mark)) = get-set_other s.slots k n (change code state) (λ e. f (ap Cap e))
+    by (Some UnbornSlot) = refl
+    by (Some (EventSlot x y m)) = refl
+    by (Some SponsorSlot) = refl
+    by (Some SpentSlot) = refl
+
+actor-same : (s : Seen) (a code state mark : W) (change : W → W → Slot) → slot_seen s a ≡ Some (ActorSlot code state mark) → slot_seen (at_actor s a change) a ≡ Some (change code state)
+actor-same s (Fix k) code state mark change h = cc
+actor-same s (Rom k) code state mark change h = cc
+actor-same s (Ram k) code state mark change h = cc
+actor-same s (Cap k) code state mark change h =
+    let e : at_actor s (Cap k) change ≡ altered s k (change code state) = ap (λ (o : Option Slot). remade o change (Cap k) s) h in
+    ap (λ (t : Seen). slot_seen t (Cap k)) e ∙ get-set_same s.slots k (change code state) (slice_get_within s.slots k (ActorSlot code state mark) h)
+
+-- a word under which something is seen is opaque
+abbrev IsSeen : Seen → W → Type 0
+IsSeen s w = (x : Slot) × (slot_seen s w ≡ Some x)
+
+altered-other : (s : Seen) (v w : W) (x : Slot) → IsSeen s v → (w ≡ v → ⊥) → slot_seen (altered s (cap_place v) x) w ≡ slot_seen s w
+altered-other s (Fix k) w x h f = let e = h.1 in absurd cc
+altered-other s (Rom k) w x h f = let e = h.1 in absurd cc
+altered-other s (Ram k) w x h f = let e = h.1 in absurd cc
+altered-other s (Cap k) (Fix n) x h f = refl
+altered-other s (Cap k) (Rom n) x h f = refl
+altered-other s (Cap k) (Ram n) x h f = refl
+altered-other s (Cap k) (Cap n) x h f = get-set_other s.slots k n x (λ e. f (ap Cap e))
+
+seen-altered : (s : Seen) (v w : W) (x : Slot) → IsSeen s v → IsSeen s w → IsSeen (altered s (cap_place v) x) w
+seen-altered s v (Fix n) x h g = let e = g.1 in absurd cc
+seen-altered s v (Rom n) x h g = let e = g.1 in absurd cc
+seen-altered s v (Ram n) x h g = let e = g.1 in absurd cc
+seen-altered s v (Cap n) x h g = by (cases_eq n (cap_place v))
+  where
+    by : (n ≡ cap_place v) ⊎ (n ≡ cap_place v → ⊥) → IsSeen (altered s (cap_place v) x) (Cap n)
+    by (inl e) = (x, subst (λ (k : ℕ). slice_get (slice_set s.slots k x) n ≡ Some x) e (get-set_same s.slots n x (slice_get_within s.slots n g.0 g.1)))
+    by (inr f) = (g.0, get-set_other s.slots (cap_place v) n x f ∙ g.1)
+
+idle-other : (s : Seen) (ms : List Made) (w : W) → ((v : W) → Among v (made_words ms) → IsSeen s v) → (Among w (made_words ms) → ⊥) → slot_seen (all_idle s ms) w ≡ slot_seen s w
+idle-other s [] w seen f = refl
+idle-other s (m ∷ ms) w seen f =
+    let x = ActorSlot m.code m.state undef in
+    let t = altered s (cap_place m.actor) x in
+    let here = seen m.actor (inl refl) in
+    idle-other t ms w (λ v a. seen-altered s m.actor v x here (seen v (inr a))) (λ a. f (inr a)) ∙ altered-other s m.actor w x here (λ e. f (inl e))
+
+content-other : (s : Seen) (v content w : W) → ((a b m : W) → slot_seen s w ≡ Some (EventSlot a b m) → ⊥) → slot_seen (with_content s v content) w ≡ slot_seen s w
+content-other s (Fix k) content w f = refl
+content-other s (Rom k) content w f = refl
+content-other s (Ram k) content w f = refl
+content-other s (Cap k) content (Fix n) f = by (slice_get s.slots k)
+  where
+    by : (o : Option Slot) → slot_seen (refilled o (Cap k) content s) (Fix n) ≡ None
+    by o = refl
+content-other s (Cap k) content (Rom n) f = refl
+content-other s (Cap k) content (Ram n) f = refl
+content-other s (Cap k) content (Cap n) f = by (slice_get s.slots k) refl
+  where
+    by : (o : Option Slot) → slice_get s.slots k ≡ o → slot_seen (refilled o (Cap k) content s) (Cap n) ≡ slot_seen s (Cap n)
+    by None h = refl
+    by (Some (OpenSlot q)) h = refl
+    by (Some (ActorSlot code state mark)) h = refl
+    by (Some UnbornSlot) h = refl
+    by (Some (EventSlot a b m)) h = get-set_other s.slots k n (EventSlot a b content) (λ e. f a b m (ap (λ (i : ℕ). slice_get s.slots i) e ∙ h))
+    by (Some SponsorSlot) h = refl
+    by (Some SpentSlot) h = refl
+
+-- an instruction takes quads alone
+going-slots : (s : Seen) (is : List Item) (g : Going) → (more : List Slot) × ((after_going s is g).0.slots ≡ s.slots ++ (g.made ++ more))
+going-slots s is g =
+    let p = pushed-store (grown s g.made, drop g.pops is) g.pushed in
+    (p.0, ap (λ (t : Seen). t.slots) p.1 ∙ append_assoc s.slots g.made p.0)
+
+going-seen : (s : Seen) (is : List Item) (g : Going) (w : W) (x : Slot) → slot_seen s w ≡ Some x → slot_seen (after_going s is g).0 w ≡ Some x
+going-seen s is g (Fix n) x h = cc
+going-seen s is g (Rom n) x h = cc
+going-seen s is g (Ram n) x h = cc
+going-seen s is g (Cap n) x h = let e = going-slots s is g in ap (λ (xs : List Slot). slice_get xs n) e.1 ∙ (get-left s.slots (g.made ++ e.0) n (slice_get_within s.slots n x h) ∙ h)
+
+-- ---- what an effect creates
+
+abbrev creates : Effect → List W
+creates Nothing = []
+creates (Sends m) = []
+creates (Creates m) = m.actor ∷ []
+creates (Assigns m) = []
+creates (Becomes b) = []
+creates (Sponsors w) = []
+creates (Grants w kind n) = []
+creates (Reclaims w) = []
+creates (Starts w signal) = []
+creates (Stops w) = []
+
+reassigned-same : (new : Made) (ms : List Made) → made_words (reassigned new ms) ≡ made_words ms
+reassigned-same new [] = refl
+reassigned-same new (m ∷ ms) = by (same_word m.actor new.actor) refl (reassigned-same new ms)
+  where
+    by : (b : Bool) → same_word m.actor new.actor ≡ b → made_words (reassigned new ms) ≡ made_words ms → made_words (if b then new ∷ ms else m ∷ reassigned new ms) ≡ m.actor ∷ made_words ms
+    by true e h = ap (λ (w : W). w ∷ made_words ms) (sym (word_same m.actor new.actor e))
+    by false e h = ap (λ (ws : List W). m.actor ∷ ws) h
+
+created-more : (f : Effects) (x : Effect) → made_words (with_effect f x).created ≡ made_words f.created ++ creates x
+created-more f Nothing = sym (append-nil (made_words f.created))
+created-more f (Sends m) = sym (append-nil (made_words f.created))
+created-more f (Creates m) = map-append (λ (x : Made). x.actor) f.created (m ∷ [])
+created-more f (Assigns m) = reassigned-same m f.created ∙ sym (append-nil (made_words f.created))
+created-more f (Becomes b) = sym (append-nil (made_words f.created))
+created-more f (Sponsors w) = sym (append-nil (made_words f.created))
+created-more f (Grants w kind n) = sym (append-nil (made_words f.created))
+created-more f (Reclaims w) = sym (append-nil (made_words f.created))
+created-more f (Starts w signal) = sym (append-nil (made_words f.created))
+created-more f (Stops w) = sym (append-nil (made_words f.created))
+
+-- it is the quad that is taken next, and not committed
+
+creates-next : (payer controller : W) (s : Seen) (made : List Slot) (x : Effect) → MadeWith payer controller s made x → (creates x ≡ []) ⊎ ((creates x ≡ Cap (next_quad s) ∷ []) × (made ≡ UnbornSlot ∷ []))
+creates-next payer controller s made Nothing h = inl refl
+creates-next payer controller s made (Sends m) h = inl refl
+creates-next payer controller s made (Creates m) h = inr (ap (λ (w : W). w ∷ []) h.0, h.1)
+creates-next payer controller s made (Assigns m) h = inl refl
+creates-next payer controller s made (Becomes b) h = inl refl
+creates-next payer controller s made (Sponsors w) h = inl refl
+creates-next payer controller s made (Grants w kind n) h = inl refl
+creates-next payer controller s made (Reclaims w) h = inl refl
+creates-next payer controller s made (Starts w signal) h = inl refl
+creates-next payer controller s made (Stops w) h = inl refl
+
+-- ---- the message that is dispatched
+
+first-idle : (st : Seen) (sheet : List Account) (flight : List Lane) (ms : List Message) (m : Message) → first_to_go st sheet flight ms ≡ Some m → is_idle st (sent_at st m.event).target ≡ true
+first-idle st sheet flight [] m h = cc
+first-idle st sheet flight (k ∷ ms) m h = by (is_in_flight k.number flight) (is_idle st (sent_at st k.event).target) refl (runs sheet (sent_at st k.event).sponsor) (λ g. first-idle st sheet flight ms m g) h
+  where
+    by : (a b : Bool) → is_idle st (sent_at st k.event).target ≡ b → (c : Bool) → (first_to_go st sheet flight ms ≡ Some m → is_idle st (sent_at st m.event).target ≡ true) → (if (not a && b && c) then Some k else first_to_go st sheet flight ms) ≡ Some m → is_idle st (sent_at st m.event).target ≡ true
+    by true b e c r g = r g
+    by false false e c r g = r g
+    by false true e false r g = r g
+    by false true e true r g = subst (λ (x : Message). is_idle st (sent_at st x.event).target ≡ true) (some_is g) e
+
+pub dispatchable-idle : (s : State) (m : Message) → dispatchable s ≡ Some m → is_idle s.store (sent_at s.store m.event).target ≡ true
+dispatchable-idle s m h = by (nat_lt (length s.flight) s.lanes) h
+  where
+    by : (b : Bool) → (if b then first_to_go s.store s.sheet s.flight s.messages else None) ≡ Some m → is_idle s.store (sent_at s.store m.event).target ≡ true
+    by true g = first-idle s.store s.sheet s.flight s.messages m g
+    by false g = cc
+
+-- an idle actor is there, with no mark
+
+idle-there : (o : Option Slot) → is_idle_in o ≡ true → (code : W) × (state : W) × (o ≡ Some (ActorSlot code state undef))
+idle-there None h = cc
+idle-there (Some (OpenSlot q)) h = cc
+idle-there (Some (ActorSlot code state mark)) h = (code, state, ap (λ (w : W). Some (ActorSlot code state w)) (word_same mark undef h))
+idle-there (Some UnbornSlot) h = cc
+idle-there (Some (EventSlot a b m)) h = cc
+idle-there (Some SponsorSlot) h = cc
+idle-there (Some SpentSlot) h = cc
+
+-- ---- a turn
+
+-- the number of the message that an actor is busy with
+abbrev number_in : Option Slot → ℕ
+number_in (Some (ActorSlot code state (Fix (pos n)))) = n
+number_in o = 0
+
+abbrev created_in : W → List Lane → ℕ
+created_in w ls = sum_by (λ (l : Lane). times w (created_by l)) ls
+
+placed-of : (s : State) → FlightSound s → Placed (λ (w : W). created_in w s.flight) (length s.store.slots)
+placed-of s h = record { once = h.created_once; taken = h.created_taken }
+
+-- where what the events in flight see is as it was
+has-still : (s t : Seen) (l : Lane) → HasActors s l → slot_seen t l.own.actor ≡ slot_seen s l.own.actor → ((w : W) → Among w (created_by l) → slot_seen t w ≡ slot_seen s w) → HasActors t l
+has-still s t l h a c = record { busy = a ∙ h.busy; unborn = λ w i. c w i ∙ h.unborn w i }
+
+out-flight : (u : State) (kind : Quota) → FlightSound u → FlightSound (record u { out_of = Some kind })
+out-flight u kind h = record { actors = h.actors; created_once = h.created_once; created_taken = h.created_taken }
+
+-- a signal that is released is no actor
+released-flight_sound : (o : Option W) (kind : Quota) (u : State) → FlightSound u → FlightSound (released o kind u)
+released-flight_sound None kind u h = h
+released-flight_sound (Some w) kind u h =
+    let content = Fix (pos (signal_number kind)) in
+    let t = with_content u.store w content in
+    let k = (released-alike (Some w) kind u).as_many in
+    let still : (l : Lane) → HasActors u.store l → HasActors t l =
+    λ l a. has-still u.store t l a (content-other u.store w content l.own.actor (λ x y z e. let b = a.busy in absurd cc)) (λ v i. content-other u.store w content v (λ x y z e. let b = a.unborn v i in absurd cc)) in
+    let p = placed-same (λ (v : W). created_in v u.flight) (λ (v : W). created_in v u.flight) (length u.store.slots) (length t.slots) (omega (arith, k)) (λ v. omega arith) (placed-of u h) in
+    record { actors = every-by (HasActors t) u.flight (λ i l at. still l (every-get (HasActors u.store) u.flight i l h.actors at)); created_once = p.once; created_taken = p.taken }
+
+module _ {grant : Amounts} (s : State) (ok : Sound grant s) (h : FlightSound s) where
+  lane-has : (i : ℕ) (l : Lane) → slice_get s.flight i ≡ Some l → HasActors s.store l
+  lane-has i l at = every-get (HasActors s.store) s.flight i l h.actors at
+
+  -- ---- dispatch
+
+  begin-flight : (m : Message) → dispatchable s ≡ Some m → FlightSound (begin s m.number (sent_at s.store m.event))
+  begin-flight m chosen =
+      record { actors = every-append (HasActors t) s.flight (new ∷ []) (every-by (HasActors t) s.flight (λ i l at. old l (lane-has i l at))) (starts, tt); created_once = p.once; created_taken = p.taken }
+    where
+      x : Sent
+      x = sent_at s.store m.event
+
+      new : Lane
+      new = begun m.number (own_of s.store x)
+
+      t : Seen
+      t = at_actor s.store x.target (busy m.number)
+
+      idle : (code : W) × (state : W) × (slot_seen s.store x.target ≡ Some (ActorSlot code state undef))
+      idle = idle-there (slot_seen s.store x.target) (dispatchable-idle s m chosen)
+
+      starts : HasActors t new
+      starts =
+          let c : (behaviour_at s.store x.target).code ≡ idle.0 = ap (λ (o : Option Slot). (behaviour_in o).code) idle.2 in
+          let d : (behaviour_at s.store x.target).state ≡ idle.1 = ap (λ (o : Option Slot). (behaviour_in o).state) idle.2 in
+          record {
+            busy = actor-same s.store x.target idle.0 idle.1 undef (busy m.number) idle.2 ∙ (ap (λ (w : W). Some (ActorSlot w idle.1 (Fix (pos m.number)))) (sym c) ∙ ap (λ (w : W). Some (ActorSlot (behaviour_at s.store x.target).code w (Fix (pos m.number)))) (sym d));
+            unborn = λ w a. absurd a;
+          }
+
+      old : (l : Lane) → HasActors s.store l → HasActors t l
+      old l a =
+          has-still s.store t l a
+          (actor-other s.store x.target (busy m.number) l.own.actor (λ e. let b = a.busy in let c = idle.2 in let d : slot_seen s.store l.own.actor ≡ slot_seen s.store x.target = ap (λ (w : W). slot_seen s.store w) e in absurd cc))
+          (λ w i. actor-other s.store x.target (busy m.number) w (λ e. let b = a.unborn w i in let c = idle.2 in let d : slot_seen s.store w ≡ slot_seen s.store x.target = ap (λ (v : W). slot_seen s.store v) e in absurd cc))
+
+      p : Placed (λ (w : W). created_in w (s.flight ++ new ∷ [])) (length t.slots)
+      p =
+          let k = (alike-busy s.store x.target m.number).as_many in
+          placed-same (λ (w : W). created_in w s.flight) (λ (w : W). created_in w (s.flight ++ new ∷ [])) (length s.store.slots) (length t.slots) (omega (arith, k)) (λ w. let e = sum_by_push (λ (l : Lane). times w (created_by l)) s.flight new in omega (arith, e)) (placed-of s h)
+
+  -- ---- the end of an event
+
+  module _ (i : ℕ) (l : Lane) (at : slice_get s.flight i ≡ Some l) (x : Effects) (part : (w : W) → Among w (made_words x.created) → Among w (created_by l)) where
+    ends : HasActors s.store l
+    ends = lane-has i l at
+
+    abbrev after_it : Seen
+    after_it = settled s.store l.own.actor x
+
+    abbrev midway : Seen
+    midway = at_actor s.store l.own.actor (resting x.next)
+
+    -- what it created is still not committed when its actor is idle
+    created-seen : (v : W) → Among v (made_words x.created) → IsSeen midway v
+    created-seen v a =
+        let u = ends.unborn v (part v a) in
+        (UnbornSlot, actor-other s.store l.own.actor (resting x.next) v (λ e. let b = ends.busy in let d : slot_seen s.store v ≡ slot_seen s.store l.own.actor = ap (λ (w : W). slot_seen s.store w) e in absurd cc) ∙ u)
+
+    settled-other : (w : W) → (w ≡ l.own.actor → ⊥) → (Among w (made_words x.created) → ⊥) → slot_seen after_it w ≡ slot_seen s.store w
+    settled-other w f g = idle-other midway x.created w created-seen g ∙ actor-other s.store l.own.actor (resting x.next) w f
+
+    -- another event in flight
+    others : (j : ℕ) (k : Lane) → slice_get (remove s.flight i) j ≡ Some k → HasActors after_it k
+    others j k there = has-still s.store after_it k a (settled-other k.own.actor apart (λ g. not_made g)) (λ w c. settled-other w (λ e. not_own w c e) (λ g. not_both w c g))
+      where
+        from : (p : ℕ) × (slice_get s.flight p ≡ Some k)
+        from = at-removed s.flight i j k there
+
+        a : HasActors s.store k
+        a = lane-has from.0 k from.1
+
+        differs : k.number ≡ l.number → ⊥
+        differs e = other-at l.number (remove s.flight i) j k (rest-other s.flight i l at ok.apart) there e
+
+        apart : k.own.actor ≡ l.own.actor → ⊥
+        apart e =
+            let both : Some (ActorSlot k.own.code k.own.state (Fix (pos k.number))) ≡ Some (ActorSlot l.own.code l.own.state (Fix (pos l.number))) = sym a.busy ∙ (ap (λ (w : W). slot_seen s.store w) e ∙ ends.busy) in
+            differs (ap number_in both)
+
+        not_made : Among k.own.actor (made_words x.created) → ⊥
+        not_made g = let u = ends.unborn k.own.actor (part k.own.actor g) in let b = a.busy in absurd cc
+
+        not_own : (w : W) → Among w (created_by k) → w ≡ l.own.actor → ⊥
+        not_own w c e = let u = a.unborn w c in let b = ends.busy in let d : slot_seen s.store w ≡ slot_seen s.store l.own.actor = ap (λ (v : W). slot_seen s.store v) e in absurd cc
+
+        not_both : (w : W) → Among w (created_by k) → Among w (made_words x.created) → ⊥
+        not_both w c g =
+            let f : Lane → ℕ = λ (l : Lane). times w (created_by l) in
+            let one = times-among w (created_by k) c in
+            let two = times-among w (created_by l) (part w g) in
+            let rest = sum-at (λ (l : Lane). times w (created_by l)) (remove s.flight i) j k there in
+            let all = sum-removed (λ (l : Lane). times w (created_by l)) s.flight i l at in
+            let o = h.created_once w in
+            absurd (omega (arith, one, two, rest, all, o))
+
+    finish-flight : (sheet : List Account) (end : End) → FlightSound (finish s i l sheet x end)
+    finish-flight sheet end =
+        let k = (alike-settled s.store l.own.actor x).as_many in
+        let p = placed-same (λ (w : W). created_in w s.flight) (λ (w : W). created_in w (remove s.flight i)) (length s.store.slots) (length after_it.slots) (omega (arith, k)) (λ w. let e = sum-removed (λ (l : Lane). times w (created_by l)) s.flight i l at in omega (arith, e)) (placed-of s h) in
+        record { actors = every-by (HasActors after_it) (remove s.flight i) others; created_once = p.once; created_taken = p.taken }
+
+    -- its actor is idle, with the behaviour that was gathered, if any
+    pub settled-own : slot_seen after_it l.own.actor ≡ Some (resting x.next l.own.code l.own.state)
+    settled-own =
+        idle-other midway x.created l.own.actor created-seen (λ g. let u = ends.unborn l.own.actor (part l.own.actor g) in let b = ends.busy in absurd cc)
+        ∙ actor-same s.store l.own.actor l.own.code l.own.state (Fix (pos l.number)) (resting x.next) ends.busy
+
+  none-created : (l : Lane) (w : W) → Among w [] → Among w (created_by l)
+  none-created l w a = absurd a
+
+  run_out-flight : (i : ℕ) (l : Lane) (kind : Quota) → slice_get s.flight i ≡ Some l → FlightSound (run_out s i l kind)
+  run_out-flight i l kind at = released-flight_sound (prepared s.sheet l.own.sponsor) kind _ (finish-flight i l at no_effects (none-created l) (stop s.sheet l.own.sponsor) (RanOut kind))
+
+  -- ---- an instruction
+
+  go_on-flight : (i : ℕ) (l : Lane) (sheet : List Account) (controller : W) (g : Going) → slice_get s.flight i ≡ Some l → MadeWith l.own.sponsor controller s.store g.made g.effect → FlightSound (go_on s i l sheet g)
+  go_on-flight i l sheet controller g at made = record { actors = every-by (HasActors t) (slice_set s.flight i new) each; created_once = p.once; created_taken = p.taken }
+    where
+      t : Seen
+      t = (after_going s.store l.stack g).0
+
+      new : Lane
+      new = gone s.store l g
+
+      next : (creates g.effect ≡ []) ⊎ ((creates g.effect ≡ Cap (next_quad s.store) ∷ []) × (g.made ≡ UnbornSlot ∷ []))
+      next = creates-next l.own.sponsor controller s.store g.made g.effect made
+
+      words : created_by new ≡ created_by l ++ creates g.effect
+      words = created-more l.effects g.effect
+
+      still : (k : Lane) → HasActors s.store k → HasActors t k
+      still k a = record { busy = going-seen s.store l.stack g k.own.actor _ a.busy; unborn = λ w c. going-seen s.store l.stack g w UnbornSlot (a.unborn w c) }
+
+      own : HasActors s.store l
+      own = lane-has i l at
+
+      fresh : (w : W) → Among w (creates g.effect) → slot_seen t w ≡ Some UnbornSlot
+      fresh w c = by next c
+        where
+          by : (creates g.effect ≡ []) ⊎ ((creates g.effect ≡ Cap (next_quad s.store) ∷ []) × (g.made ≡ UnbornSlot ∷ [])) → Among w (creates g.effect) → slot_seen t w ≡ Some UnbornSlot
+          by (inl e) c = absurd (subst (λ (ws : List W). Among w ws) e c)
+          by (inr e) c = one e.1 (subst (λ (ws : List W). Among w ws) e.0 c)
+            where
+              one : g.made ≡ UnbornSlot ∷ [] → Among w (Cap (next_quad s.store) ∷ []) → slot_seen t w ≡ Some UnbornSlot
+              one m (inl d) =
+                  let q = going-slots s.store l.stack g in
+                  let r : slot_seen t (Cap (next_quad s.store)) ≡ Some UnbornSlot = ap (λ (xs : List Slot). slice_get xs (next_quad s.store)) (q.1 ∙ ap (λ (xs : List Slot). s.store.slots ++ (xs ++ q.0)) m) ∙ get-seam s.store.slots q.0 UnbornSlot in
+                  subst (λ (v : W). slot_seen t v ≡ Some UnbornSlot) (sym d) r
+              one m (inr d) = absurd d
+
+      goes : HasActors t new
+      goes = record { busy = going-seen s.store l.stack g l.own.actor _ own.busy; unborn = λ w c. by w (among-of w (created_by l) (creates g.effect) (subst (λ (ws : List W). Among w ws) words c)) }
+        where
+          by : (w : W) → Among w (created_by l) ⊎ Among w (creates g.effect) → slot_seen t w ≡ Some UnbornSlot
+          by w (inl c) = going-seen s.store l.stack g w UnbornSlot (own.unborn w c)
+          by w (inr c) = fresh w c
+
+      each : (j : ℕ) (k : Lane) → slice_get (slice_set s.flight i new) j ≡ Some k → HasActors t k
+      each j k there = by (at-set s.flight i j new k there)
+        where
+          by : (new ≡ k) ⊎ (slice_get s.flight j ≡ Some k) → HasActors t k
+          by (inl e) = subst (λ (x : Lane). HasActors t x) e goes
+          by (inr old) = still k (lane-has j k old)
+
+      is_next : IsNext s.store g.made (creates g.effect)
+      is_next = by next
+        where
+          by : (creates g.effect ≡ []) ⊎ ((creates g.effect ≡ Cap (next_quad s.store) ∷ []) × (g.made ≡ UnbornSlot ∷ [])) → IsNext s.store g.made (creates g.effect)
+          by (inl e) = inl e
+          by (inr e) = let n : length g.made ≡ 1 = ap (λ (xs : List Slot). length xs) e.1 in inr (e.0, omega (arith, n))
+
+      p : Placed (λ (w : W). created_in w (slice_set s.flight i new)) (length t.slots)
+      p =
+          let up = length-going s.store l.stack g in
+          placed-named (λ (w : W). created_in w s.flight) (λ (w : W). created_in w (slice_set s.flight i new)) s.store (length t.slots) g.made (creates g.effect) (omega (arith, up)) is_next (λ w.
+          let a = sum-set (λ (l : Lane). times w (created_by l)) s.flight i l new at in
+          let b : times w (created_by new) ≡ times w (created_by l ++ creates g.effect) = ap (λ (ws : List W). times w ws) words in
+          let c = (how_often w).more (created_by l) (creates g.effect) in
+          omega (arith, a, b, c)) (placed-of s h)
+
+  -- ---- each turn
+
+  flight-each : (pick : ℕ) → EachKind s pick (λ t a. FlightSound t)
+  flight-each pick = record {
+    spent = λ kind. h;
+    rests = h;
+    begins = λ m is c. begin-flight m is;
+    delivers = λ m end bytes c. record { actors = h.actors; created_once = h.created_once; created_taken = h.created_taken };
+    goes = λ l g at paid is. go_on-flight (pick % length s.flight) l (spend s.sheet l.own.sponsor (lane_row s.store s.sheet l).charge) (item (values l.stack) 1) g at (subst (MakesNamed l.own.sponsor (item (values l.stack) 1) s.store) is (row_at-makes l.own (fetched s.store l.code) s.store s.sheet l.effects (values l.stack)));
+    fails = λ l w at paid is. finish-flight (pick % length s.flight) l at no_effects (none-created l) (spend s.sheet l.own.sponsor (lane_row s.store s.sheet l).charge) (Failed w);
+    commits = λ l at paid is. finish-flight (pick % length s.flight) l at l.effects (λ w c. c) (spend s.sheet l.own.sponsor (lane_row s.store s.sheet l).charge) Committed;
+    runs_out = λ l kind at. run_out-flight (pick % length s.flight) l kind at;
+    root_runs_out = λ l kind at. out-flight (run_out s (pick % length s.flight) l kind) kind (run_out-flight (pick % length s.flight) l kind at);
+  }
+
+  pub turn-flight : (pick : ℕ) → FlightSound (turn s pick).0
+  turn-flight pick = turn-by s pick (λ t a. FlightSound t) (flight-each pick)
+
+-- ---- runs
+
+pub boot-flight : (image : RomImage) (grant : Amounts) (lanes : ℕ) → FlightSound (booted image grant lanes)
+boot-flight image grant lanes = record { actors = tt; created_once = λ w. omega arith; created_taken = λ w k. absurd (omega (arith, k)) }
+
+pub after-flight : {grant : Amounts} (s : State) (ps : List ℕ) → Sound grant s → FlightSound s → FlightSound (after s ps)
+after-flight s [] ok h = h
+after-flight {grant = grant} s (p ∷ ps) ok h = after-flight (turn s p).0 ps (turn-sound grant s ok p) (turn-flight s ok h p)
+
+pub run-flight : (image : RomImage) (grant : Amounts) (lanes : ℕ) (picks : List ℕ) → FlightSound (run image grant lanes picks)
+run-flight image grant lanes picks = after-flight (booted image grant lanes) picks (boot-sound image grant lanes) (boot-flight image grant lanes)
