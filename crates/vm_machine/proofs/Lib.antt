@@ -16,3 +16,4 @@ mod Exhausting
 mod Standing
 mod Searching
 mod Beginning
+mod Instructed

@@ -2,3 +2,4 @@ pub mod Messages
 pub mod Flight
 pub mod View
 pub mod Whole
+pub mod Steps

@@ -1,0 +1,25 @@
+-- What one instruction of an event in flight does to the state of a machine.
+use Rattle.std.specs.Prelude.{◌≡◌, ℕ, List, Option, Some, None}
+use Rattle.instr_table.specs.declared.charge.Quota.{Quota}
+use Rattle.instr_table.specs.Sheet.{Account, account, short, spend}
+use Rattle.instr_table.specs.Outcome.{Going, Outcome, Goes, Faults, Commits, Row}
+use Rattle.instr_table.specs.Lane.{Lane as Flying, lane_row}
+use Rattle.vm_turn.specs.State.{State}
+use Rattle.vm_turn.specs.Turn.{go_on}
+use Rattle.vm_step.specs.declared.lane.StepEnd.{StepEnd}
+use Rattle.vm_step.specs.declared.lane.StepEnd.TheVariants.{Going as GoingOn, Commit, Abort, RanOut}
+
+-- it was paid, and the event goes on, or is still to end
+abbrev pub PaidTo : Outcome → StepEnd → State → State → ℕ → Flying → List Account → Type 0
+PaidTo (Goes g) end s t i l sheet = (end ≡ GoingOn) × (t ≡ go_on s i l sheet g)
+PaidTo (Faults w) end s t i l sheet = (end ≡ Abort w) × (t ≡ record s { sheet = sheet })
+PaidTo Commits end s t i l sheet = (end ≡ Commit) × (t ≡ record s { sheet = sheet })
+
+-- nothing was done where the sponsor is short of some kind
+abbrev pub StepsAs : Option Quota → Row → StepEnd → State → State → ℕ → Flying → Type 0
+StepsAs (Some kind) r end s t i l = (end ≡ RanOut kind) × (t ≡ s)
+StepsAs None r end s t i l = PaidTo r.outcome end s t i l (spend s.sheet l.own.sponsor r.charge)
+
+-- the event at place i takes one instruction
+abbrev pub StepsTo : State → State → ℕ → Flying → StepEnd → Type 0
+StepsTo s t i l end = StepsAs (short (account s.sheet l.own.sponsor) (lane_row s.store s.sheet l).charge) (lane_row s.store s.sheet l) end s t i l
