@@ -39,9 +39,9 @@ without-among n (m ∷ ms) w a = by (nat_eq m.number n) (without-among n ms w) a
     by false later (inr a) = inr (later a)
 
 -- what was spent is no more than what is spent and held
-spent-under : (rows : List Account) → spent_by_all Events rows ≤ total Events rows
-spent-under [] = omega arith
-spent-under (a ∷ rows) = let h = spent-under rows in omega (arith, sum_by-cons (spent_of Events) a rows, sum_by-cons (kept Events) a rows, h)
+pub spent-under : (kind : Quota) (rows : List Account) → spent_by_all kind rows ≤ total kind rows
+spent-under kind [] = omega arith
+spent-under kind (a ∷ rows) = let h = spent-under kind rows in omega (arith, sum_by-cons (spent_of kind) a rows, sum_by-cons (kept kind) a rows, h)
 
 module _ (grant : Amounts) (s : State) (ok : Sound grant s) (who signal : W) (h : prepared s.sheet who ≡ Some signal) where
   -- there is a number for it
@@ -50,7 +50,7 @@ module _ (grant : Amounts) (s : State) (ok : Sound grant s) (who signal : W) (h 
       let one : length (as_list (prepared s.sheet who)) ≡ 1 = ap (λ (o : Option W). length (as_list o)) h in
       let some = account-under (λ (a : Account). length (signals_of a)) s.sheet who refl in
       let granted = ok.conserved Events in
-      omega (arith, one, some, granted, spent-under s.sheet, ok.paid_for)
+      omega (arith, one, some, granted, spent-under Events s.sheet, ok.paid_for)
 
   -- it is the event of no message that is left when an event ended
   pub signal-left : (i : ℕ) (l : Flying) (sheet : List Account) (end : Outcome) → Among signal (message_words (finish s i l sheet no_effects end).messages) → ⊥

@@ -1,8 +1,9 @@
 -- A machine after one instruction of an event in flight.
-use Rattle.std.proofs.Common.{◌≡◌, ◌⊎◌, inl, inr, ℕ, zero, suc, ◌+◌, ◌*◌, ◌<◌, ◌≤◌, List, [], ◌∷◌, ◌++◌, length, get_or, Option, Some, None, Bool, true, false, if◌then◌else◌, ap, ap₂, refl, sym, ◌∙◌, subst, arith, pos, vec_len, length-append}
-use Rattle.std.specs.Prelude.{map, remove, slice_get, slice_set, vec_capacity}
+use Rattle.std.proofs.Common.{◌≡◌, ◌⊎◌, inl, inr, ℕ, zero, suc, ◌+◌, ◌*◌, ◌^◌, ◌<◌, ◌≤◌, List, [], ◌∷◌, ◌++◌, length, get_or, Option, Some, None, Bool, true, false, if◌then◌else◌, ap, ap₂, refl, sym, ◌∙◌, subst, arith, pos, vec_len, length-append}
+use Rattle.std.specs.Prelude.{map, remove, slice_get, slice_set, vec_capacity, IsTrue}
 use Rattle.std.specs.Global.{Vec}
 use Rattle.std.specs.List.{sum_by}
+use Rattle.std.proofs.lemmas.Bool.Decides.{nat_tests}
 use Rattle.std.proofs.lemmas.List.{length-map, length-set}
 use Rattle.cap_words.specs.Words.{W, Cap, same_word}
 use Rattle.cap_words.specs.Store.{Store, used}
@@ -22,6 +23,7 @@ use Rattle.instr_table.specs.Sheet.{Account, account, short, spend, sheet_after,
 use Rattle.instr_table.specs.Lane.{after_going, gone, lane_row, values, Lane as Flying}
 use Rattle.instr_table.specs.Reach.{Every}
 use Rattle.instr_table.proofs.Makings.{row_at-makes}
+use Rattle.vm_sponsor.specs.Grant.{is_grant}
 use Rattle.vm_sponsor.specs.Ledger.{Ledger, names}
 use Rattle.vm_sponsor.specs.Totals.{sponsors}
 use Rattle.vm_sponsor.proofs.Plain.{sponsors-at_account}
@@ -45,6 +47,7 @@ use Rattle.vm_machine.specs.Flight.{flight_of, Flies, Separate, Pairwise}
 use Rattle.vm_machine.specs.View.{state_of}
 use Rattle.vm_machine.specs.Whole.{Kept, Whole, cycles_spent, created_in}
 use Rattle.vm_machine.specs.Steps.{PaidTo, StepsAs, StepsTo}
+use Rattle.vm_machine.proofs.Exhausting.{spent-under}
 use Rattle.vm_machine.proofs.Lists.{every-more, every-at, get-map}
 use Rattle.vm_machine.proofs.Still.{Flown, still}
 use Rattle.vm_machine.proofs.Left.{Stayed, stayed}
@@ -257,3 +260,20 @@ module _ (p : Parts) (whole : Whole p) (place : ℕ) (lane m : Lane) (at : slice
 
   pub instructed-is : (end : StepEnd) → Steps p.quads after p.sheet sheet lane m end → Kept instructed × StepsTo (state_of p) (state_of instructed) place l end
   instructed-is end h = by_short (short (account rows l.own.sponsor) (lane_row (seen s) rows l).charge) (lane_row (seen s) rows l) end refl refl h
+
+  pub instructed-at : (end : StepEnd) → Steps p.quads after p.sheet sheet lane m end → (x : Flying) → slice_get (state_of p).flight place ≡ Some x → StepsTo (state_of p) (state_of instructed) place x end
+  instructed-at end h x e = subst (λ (y : Flying). StepsTo (state_of p) (state_of instructed) place y end) (some (sym (get-map (lane_of s) p.flight.items place lane at) ∙ e)) (instructed-is end h).1
+    where
+      some : {y z : Flying} → Some y ≡ Some z → y ≡ z
+      some g = cc
+
+-- a cycle is spent for each three transfers, and a grant has few cycles
+few-cycles : (memory events cycles : ℕ) → IsTrue (is_grant memory events cycles) → cycles ≤ 1073741823
+few-cycles memory events cycles h = grind (arith, nat_tests)
+
+pub few-transfers : (p : Parts) → Whole p → p.sheet.transfers < 2 ^ 32
+few-transfers p w =
+    let few = few-cycles p.grant.memory p.grant.events p.grant.cycles w.kept.granted in
+    let spent = spent-under Cycles (sheet_in p.quads p.sheet) in
+    let granted = w.sound.conserved Cycles in
+    omega (arith, few, spent, granted, w.kept.transfers)

@@ -11,5 +11,6 @@ mod parts;
 mod ready;
 mod roll;
 mod start;
+mod turn;
 
 pub use std::alloc::AllocError as NoMemory;
