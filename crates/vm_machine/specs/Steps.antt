@@ -1,5 +1,8 @@
 -- What one instruction of an event in flight does to the state of a machine.
-use Rattle.std.specs.Prelude.{◌≡◌, ℕ, List, Option, Some, None}
+use Rattle.std.specs.Prelude.{◌≡◌, ℕ, Bool, true, false, List, Option, Some, None}
+use Rattle.cap_words.specs.Words.{W}
+use Rattle.instr_table.specs.declared.op.Op.{Op}
+use Rattle.instr_table.specs.declared.op.Op.TheVariants.{SponsorStart}
 use Rattle.instr_table.specs.declared.charge.Quota.{Quota}
 use Rattle.instr_table.specs.Sheet.{Account, account, short, spend}
 use Rattle.instr_table.specs.Outcome.{Going, Outcome, Goes, Faults, Commits, Row}
@@ -23,3 +26,12 @@ StepsAs None r end s t i l = PaidTo r.outcome end s t i l (spend s.sheet l.own.s
 -- the event at place i takes one instruction
 abbrev pub StepsTo : State → State → ℕ → Flying → StepEnd → Type 0
 StepsTo s t i l end = StepsAs (short (account s.sheet l.own.sponsor) (lane_row s.store s.sheet l).charge) (lane_row s.store s.sheet l) end s t i l
+
+-- whether the instruction is `sponsor start`
+abbrev pub is_start : Op → Bool
+is_start SponsorStart = true
+is_start op = false
+
+abbrev pub starts : Option (Op × W) → Bool
+starts None = false
+starts (Some o) = is_start o.0

@@ -1,16 +1,21 @@
 // One turn.
 
-ghost use Rattle.std.specs.Prelude.{◌≡◌, ◌<◌, ◌%◌, Some, length, slice_get, true};
+ghost use Rattle.std.specs.Prelude.{◌≡◌, ◌<◌, ◌%◌, Some, length, slice_get, true, false};
+ghost use Rattle.cap_words.specs.Seen.{seen};
+ghost use Rattle.instr_table.specs.Code.{fetched};
 ghost use Rattle.instr_table.specs.Lane.{Lane as Flying};
 ghost use Rattle.vm_turn.specs.Turn.{step};
-ghost use Rattle.vm_machine.specs.Steps.{StepsTo};
+ghost use Rattle.vm_machine.specs.Steps.{StepsTo, starts};
 ghost use Rattle.vm_machine.specs.View.{state_of};
 ghost use Rattle.vm_machine.specs.Whole.{Kept, Waits, Whole};
 
 use crate::exhausted::run_out;
 use crate::finish::{commit, fail};
 use crate::parts::Parts;
-use vm_step::StepEnd;
+use cap_words::Word;
+use instr_table::Op;
+use quad_memory::Quads;
+use vm_step::{StepEnd, fetch};
 use vm_turn::{Outcome, Turn};
 
 // The event at that place takes one instruction, and is still to end where it ends.
@@ -20,6 +25,8 @@ fn instruct(parts: &mut Parts, place: usize) -> StepEnd
     ensures kept { Kept parts.new }
     ensures state { (l : Flying) → slice_get (state_of parts.old).flight place ≡ Some l → StepsTo (state_of parts.old) (state_of parts.new) place l result }
     ensures grant { parts.new.grant ≡ parts.old.grant }
+    ensures stuck { parts.new.stuck ≡ parts.old.stuck }
+    ensures queue { parts.new.queue ≡ parts.old.queue }
     ensures place { length parts.new.flight.items ≡ length parts.old.flight.items }
 {
     vm_step::step(
@@ -27,4 +34,44 @@ fn instruct(parts: &mut Parts, place: usize) -> StepEnd
         &mut parts.sheet,
         &mut parts.flight[place],
     )
+}
+
+// Whether the instruction at a code word is `sponsor start`, after which messages can go that could not before.
+fn starts(quads: &Quads, code: Word) -> bool
+    ensures { result ≡ starts (fetched (seen quads.now.store) code) }
+{
+    matches!(fetch(quads, code), Some((Op::SponsorStart, _)))
+}
+
+// Forgets that no message can go where the event at that place is to start a sponsor.
+fn loosen(parts: &mut Parts, place: usize)
+    requires whole { Whole parts.old }
+    requires place { place < length parts.old.flight.items }
+    ensures whole { Whole parts.new }
+    ensures parts { parts.new ≡ record parts.old { stuck = parts.new.stuck } }
+    ensures stuck { parts.new.stuck ≡ true → (l : Flying) → slice_get (state_of parts.old).flight place ≡ Some l → starts (fetched (state_of parts.old).store l.code) ≡ false }
+{
+    let code = parts.flight[place].code;
+    if starts(&parts.quads, code) {
+        parts.stuck = false;
+    }
+}
+
+// The event at that place takes one instruction, and ends where that ends it.
+fn take(parts: &mut Parts, place: usize) -> Turn
+    requires whole { Whole parts.old }
+    requires place { place < length parts.old.flight.items }
+    ensures kept { Kept parts.new }
+    ensures waits { parts.new.stuck ≡ true → Waits (state_of parts.new) }
+    ensures state { (l : Flying) → slice_get (state_of parts.old).flight place ≡ Some l → state_of parts.new ≡ (step (state_of parts.old) place (Some l)).0 }
+    ensures turn { (l : Flying) → slice_get (state_of parts.old).flight place ≡ Some l → result ≡ (step (state_of parts.old) place (Some l)).1 }
+{
+    loosen(parts, place);
+    let end = instruct(parts, place);
+    match end {
+        StepEnd::Going => Turn::Stepped,
+        StepEnd::Commit => Turn::Finished(commit(parts, place)),
+        StepEnd::Abort(reason) => Turn::Finished(fail(parts, place, Outcome::Failed(reason))),
+        StepEnd::RanOut(kind) => run_out(parts, place, kind),
+    }
 }

@@ -6,6 +6,8 @@
 
 mod instruction;
 mod lane;
+mod reads;
 
 pub use instruction::step;
 pub use lane::{Lane, StepEnd};
+pub use reads::fetch;
