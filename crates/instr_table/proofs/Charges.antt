@@ -26,7 +26,7 @@ use Rattle.instr_table.specs.Laws.{IsCharged, Covers}
 
 -- ---- how long the lists are
 
-length-top_items : (n : ℕ) (vs : List W) → length (top_items n vs) ≡ n
+pub length-top_items : (n : ℕ) (vs : List W) → length (top_items n vs) ≡ n
 length-top_items zero vs = refl
 length-top_items (suc n) [] = ap suc (length-top_items n [])
 length-top_items (suc n) (v ∷ vs) = ap suc (length-top_items n vs)
@@ -35,14 +35,14 @@ pub length-linked : {A : Type 0} (f : A → W → Quad) (n : ℕ) (xs : List A) 
 length-linked f n [] tail = refl
 length-linked f n (x ∷ xs) tail = ap suc (length-linked f (suc n) xs _)
 
-length-parted : (s : Seen) (n : ℕ) (w : W) → length (parted s n w) ≡ n + 1
+pub length-parted : (s : Seen) (n : ℕ) (w : W) → length (parted s n w) ≡ n + 1
 length-parted s zero w = refl
 length-parted s (suc n) w =
     let h = length-parted s n (tail_in (cell_seen s w)) in
     let e = length-append (parted s n (tail_in (cell_seen s w))) (head_in (cell_seen s w) ∷ []) in
     omega arith
 
-length-fields : (q : Option Quad) (n : ℕ) → length (fields_in q n) ≡ n
+pub length-fields : (q : Option Quad) (n : ℕ) → length (fields_in q n) ≡ n
 length-fields q zero = refl
 length-fields q (suc n) = ap suc (length-fields q n)
 

@@ -65,7 +65,8 @@ impl Quads {
 
     /// How many RAM quads there may be.
     pub fn room(&self) -> u32
-        ensures { result ≡ self.now.room }
+        ensures value { result ≡ self.now.room }
+        ensures bound { result ≤ 2 ^ 24 + 256 }
     {
         self.room
     }

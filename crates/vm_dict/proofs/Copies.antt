@@ -18,11 +18,11 @@ use Rattle.vm_dict.proofs.Entries.{entries-zero, entries-none, entries-some, ent
 
 -- ---- cells that are linked, one more of them
 
-linked-more : {A : Type 0} (f : A → W → Quad) (n : ℕ) (xs : List A) (x : A) (tail : W) → linked f n (xs ++ x ∷ []) tail ≡ linked f n xs tail ++ OpenSlot (f x (last_linked n xs tail)) ∷ []
+pub linked-more : {A : Type 0} (f : A → W → Quad) (n : ℕ) (xs : List A) (x : A) (tail : W) → linked f n (xs ++ x ∷ []) tail ≡ linked f n xs tail ++ OpenSlot (f x (last_linked n xs tail)) ∷ []
 linked-more f n [] x tail = refl
 linked-more f n (y ∷ xs) x tail = ap (λ (l : List Slot). OpenSlot (f y tail) ∷ l) (linked-more f (suc n) xs x (Ram n))
 
-last-more : {A : Type 0} (n : ℕ) (xs : List A) (x : A) (tail : W) → last_linked n (xs ++ x ∷ []) tail ≡ Ram (n + length xs)
+pub last-more : {A : Type 0} (n : ℕ) (xs : List A) (x : A) (tail : W) → last_linked n (xs ++ x ∷ []) tail ≡ Ram (n + length xs)
 last-more n [] x tail = ap Ram (omega arith)
 last-more n (y ∷ xs) x tail = last-more (suc n) xs x (Ram n) ∙ ap Ram (omega arith)
 

@@ -1,0 +1,15 @@
+pub mod Stacks
+pub mod Moving
+pub mod Flying
+pub mod Going
+pub mod Rows
+pub mod Charges
+pub mod Typing
+pub mod Pushing
+pub mod Casts
+pub mod Making
+pub mod Listing
+pub mod Recording
+pub mod Balances
+pub mod Shifting
+pub mod Sponsoring

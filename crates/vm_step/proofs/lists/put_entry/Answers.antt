@@ -1,0 +1,16 @@
+use Rattle.cap_words.specs.Seen.{seen}
+use Rattle.instr_table.specs.Lists.{next_quad}
+use Rattle.instr_table.specs.Dictionary.{dict_put}
+use Rattle.vm_step.proofs.Listing.{built-ready, built-gives}
+use Rattle.vm_step.proofs.lists.put_entry.Goals as goal
+
+pub gives-requires : goal.gives-requires
+gives-requires c =
+    let s = seen c.args.quads.now.store in
+    built-ready c.args.quads.now c.entry_put-made.new.quads c.args.lane.now _ _ (λ i. dict_put c.args.n.now s (next_quad s) (c.at-dict.ensures i) (c.at-key.ensures i) (c.at-value.ensures i)) c.requires c.entry_put-made.ensures.cells
+
+pub returns : goal.returns
+returns c =
+    let s = seen c.args.quads.now.store in
+    built-gives c.args.quads.now c.entry_put-made.new.quads c.gives.new.quads c.args.lane.now c.gives.new.self _ _ 3 c.entry_put-made.result c.args.next c.gives.result
+    (λ i. dict_put c.args.n.now s (next_quad s) (c.at-dict.ensures i) (c.at-key.ensures i) (c.at-value.ensures i)) c.requires c.entry_put-made.ensures.cells c.entry_put-made.ensures.word c.gives.ensures
