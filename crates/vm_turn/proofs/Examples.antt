@@ -22,7 +22,7 @@ use Rattle.vm_turn.specs.declared.journal.Turn.{Turn as Answer}
 use Rattle.vm_turn.specs.declared.journal.Turn.TheVariants.{Dispatched, Stepped, Finished, Rest, Spent}
 use Rattle.vm_turn.specs.State.{State as Machine}
 use Rattle.vm_turn.specs.Boot.{booted}
-use Rattle.vm_turn.specs.Piece.{tree_to, piece}
+use Rattle.vm_turn.specs.Piece.{tree_to, numbers_to, piece}
 use Rattle.vm_turn.specs.Turn.{entry, turn}
 use Rattle.vm_turn.specs.Run.{after, run, answers, completed, picks}
 use Rattle.vm_turn.specs.Authority.{EventOf, made_since, handed_on}
@@ -87,16 +87,16 @@ says_in_utf8 = refl
 
 -- a name has visible bytes alone
 prints_symbols : piece 0 letters (Rom 18) ≡ Some (codes "^" ++ 10 ∷ [])
-unfolding piece tree_to look_up
+unfolding piece tree_to look_up numbers_to
 prints_symbols = refl
 
 prints_a_symbol : piece 0 letters (Rom 19) ≡ Some (codes "#h" ++ 10 ∷ [])
-unfolding piece tree_to look_up
+unfolding piece tree_to look_up numbers_to
 prints_a_symbol = refl
 
 -- nor a delimiter
 prints_no_delimiter : piece 0 letters (Rom 21) ≡ Some (codes "^" ++ 10 ∷ [])
-unfolding piece tree_to look_up
+unfolding piece tree_to look_up numbers_to
 prints_no_delimiter = refl
 
 -- ---- what is told of a run: the output, the journal, and what the root has spent

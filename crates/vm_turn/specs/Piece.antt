@@ -1,10 +1,10 @@
 -- What the devices write.
-use Rattle.std.specs.Prelude.{ℕ, zero, suc, ◌+◌, nat_eq, nat_lt, nat_le, if◌then◌else◌, ℤ, pos, negsuc, Bool, true, false, not, ◌&&◌, ◌||◌, List, [], ◌∷◌, ◌++◌, Option, Some, None, option_map, codes, decimal, encode_utf8}
-use Rattle.std.specs.List.{list_any}
+use Rattle.std.specs.Prelude.{ℕ, zero, suc, ◌+◌, nat_eq, nat_lt, nat_le, if◌then◌else◌, pos, Bool, true, false, ◌&&◌, ◌||◌, List, [], ◌∷◌, ◌++◌, Option, Some, None, option_map, codes, encode_utf8}
+use Rattle.std.specs.Fmt.{signed_decimal}
 use Rattle.cap_words.specs.declared.word.Quad.{Quad}
 use Rattle.cap_words.specs.Words.{W, Fix, Rom, Ram, Cap, same_word, nil, symbol_t, func_t, block_t}
 use Rattle.cap_words.specs.Seen.{Seen, cell_seen}
-use Rattle.cap_words.specs.Text.{is_name}
+use Rattle.cap_words.specs.Text.{is_run}
 use Rattle.instr_table.specs.Lists.{pair_in}
 use Rattle.instr_table.specs.Types.{Shown, Readable, AnActor, ASponsor, look_up}
 
@@ -49,33 +49,20 @@ tree s w = small (tree_to s most_leaves w)
 
 -- ---- texts of words
 
--- digits, after a sign where the number is below 0
-abbrev pub number_text : ℤ → List ℕ
-number_text (pos n) = decimal n
-number_text (negsuc n) = codes "-" ++ decimal (suc n)
-
 -- the number in front of the rest of a list
 abbrev pub before : W → Option (List ℕ) → Option (List ℕ)
 before (Fix (pos n)) rest = option_map (λ ns. n ∷ ns) rest
 before w rest = None
 
 -- the numbers of a list that ends with `#nil`; none where it is longer than n, or holds anything else
-abbrev pub numbers_to : Seen → ℕ → W → Option (List ℕ)
+unfoldable pub numbers_to : Seen → ℕ → W → Option (List ℕ)
 numbers_to s zero w = if same_word w nil then Some [] else None
 numbers_to s (suc n) w = elim (pair_in (cell_seen s w)) [
   | None ↦ if same_word w nil then Some [] else None
   | Some q ↦ before q.x (numbers_to s n q.y)
 ]
 
--- whether a byte has a meaning of its own in a text of the language
-abbrev pub is_delimiter : ℕ → Bool
-is_delimiter b = list_any (λ d. nat_eq d b) (codes "()[],.=:\"$\\#")
-
--- the name of a symbol: 1 to 128 visible bytes, with no delimiter
-abbrev pub is_run : List ℕ → Bool
-is_run bytes = is_name bytes && not (list_any is_delimiter bytes)
-
--- a symbol's name after `#`, where it is one
+-- a symbol's name after `#`, where its bytes are a run
 abbrev pub symbol_text : Option (List ℕ) → List ℕ
 symbol_text None = codes "^"
 symbol_text (Some name) = if is_run name then codes "#" ++ name else codes "^"
@@ -89,7 +76,7 @@ cell_text s q =
 
 -- a word that shows nothing
 abbrev pub plain_text : W → List ℕ
-plain_text (Fix n) = number_text n
+plain_text (Fix n) = signed_decimal n
 plain_text (Rom n) =
     if nat_eq n 0 then codes "?" else
     if nat_eq n 1 then codes "NIL" else
