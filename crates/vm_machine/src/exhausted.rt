@@ -1,6 +1,6 @@
 // Events whose sponsor held too little.
 
-ghost use Rattle.std.specs.Prelude.{◌≡◌, ◌<◌, Some, None, pos, length, option_map, slice_get, [], ◌∷◌};
+ghost use Rattle.std.specs.Prelude.{◌≡◌, ◌<◌, Some, None, false, pos, length, option_map, slice_get, [], ◌∷◌};
 ghost use Rattle.cap_words.specs.Words.{W, Fix, same_word};
 ghost use Rattle.cap_words.specs.Seen.{EventSlot, seen, slot_seen};
 ghost use Rattle.cap_words.specs.Frame.{Among, Framed};
@@ -75,6 +75,7 @@ fn release(parts: &mut Parts, signal: Word, kind: Quota)
     requires not_sent { Every (λ (l : Flying). Among signal (sent_by l) → ⊥) (state_of parts.old).flight }
     ensures kept { Kept parts.new }
     ensures state { state_of parts.new ≡ released (Some signal) kind (state_of parts.old) }
+    ensures stuck { parts.new.stuck ≡ false }
 {
     fill(&mut parts.quads, signal, signal_word(kind));
     let _number = parts.queue.append(signal);
@@ -89,6 +90,7 @@ fn release_any(parts: &mut Parts, signal: Option<Word>, kind: Quota)
     requires not_sent { (w : W) → signal ≡ Some w → Every (λ (l : Flying). Among w (sent_by l) → ⊥) (state_of parts.old).flight }
     ensures kept { Kept parts.new }
     ensures state { state_of parts.new ≡ released signal kind (state_of parts.old) }
+    ensures stuck { parts.old.stuck ≡ false → parts.new.stuck ≡ false }
 {
     if let Some(event) = signal {
         release(parts, event, kind);
@@ -103,6 +105,7 @@ pub(crate) fn run_out(parts: &mut Parts, place: usize, kind: Quota) -> Turn
     ensures kept { Kept parts.new }
     ensures state { (l : Flying) → slice_get (state_of parts.old).flight place ≡ Some l → state_of parts.new ≡ out_by (same_word l.own.sponsor root) kind (run_out (state_of parts.old) place l kind) }
     ensures turn { (l : Flying) → slice_get (state_of parts.old).flight place ≡ Some l → result ≡ spent_by (same_word l.own.sponsor root) kind (entry l.number (RanOut kind)) }
+    ensures stuck { parts.new.stuck ≡ false }
 {
     let event = parts.flight[place].event;
     let who = payer_of(&parts.quads, event);
@@ -118,6 +121,7 @@ fn end_run(parts: &mut Parts, who: Word, kind: Quota, entry: Entry) -> Turn
     ensures kept { Kept parts.new }
     ensures state { state_of parts.new ≡ out_by (same_word who root) kind (state_of parts.old) }
     ensures turn { result ≡ spent_by (same_word who root) kind entry }
+    ensures stuck { parts.new.stuck ≡ parts.old.stuck }
 {
     let root = Word::cap(0);
     if is_same(who, root) {

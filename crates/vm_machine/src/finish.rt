@@ -1,6 +1,6 @@
 // Events that end.
 
-ghost use Rattle.std.specs.Prelude.{◌≡◌, ◌+◌, ◌<◌, ◌≤◌, length, slice_get, Some};
+ghost use Rattle.std.specs.Prelude.{◌≡◌, ◌+◌, ◌<◌, ◌≤◌, length, slice_get, Some, false};
 ghost use Rattle.cap_words.specs.Seen.{EventSlot, seen, slot_seen};
 ghost use Rattle.cap_words.specs.Words.{W};
 ghost use Rattle.instr_table.specs.Event.{no_effects};
@@ -27,6 +27,7 @@ pub(crate) fn fail(parts: &mut Parts, place: usize, outcome: Outcome) -> Entry
     ensures state { (l : Flying) → slice_get (state_of parts.old).flight place ≡ Some l → state_of parts.new ≡ finish (state_of parts.old) place l (state_of parts.old).sheet no_effects outcome }
     ensures entry { (l : Flying) → slice_get (state_of parts.old).flight place ≡ Some l → result ≡ entry l.number outcome }
     ensures queue { parts.new.queue ≡ parts.old.queue }
+    ensures stuck { parts.new.stuck ≡ false }
 {
     let lane = parts.flight.remove(place);
     let actor = target_of(&parts.quads, lane.event);
@@ -48,6 +49,7 @@ pub(crate) fn commit(parts: &mut Parts, place: usize) -> Entry
     ensures kept { Kept parts.new }
     ensures state { (l : Flying) → slice_get (state_of parts.old).flight place ≡ Some l → state_of parts.new ≡ finish (state_of parts.old) place l (state_of parts.old).sheet l.effects Committed }
     ensures entry { (l : Flying) → slice_get (state_of parts.old).flight place ≡ Some l → result ≡ entry l.number Committed }
+    ensures stuck { parts.new.stuck ≡ false }
 {
     let lane = parts.flight.remove(place);
     let actor = target_of(&parts.quads, lane.event);

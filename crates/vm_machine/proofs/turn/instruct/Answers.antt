@@ -18,9 +18,6 @@ step-requires-clause-held c =
 pub step-requires-clause-transfers : goal.step-requires-clause-transfers
 step-requires-clause-transfers c = few-transfers c.args.parts.now c.requires.whole
 
-pub step-requires-clause-stub : goal.step-requires-clause-stub
-step-requires-clause-stub c = ?
-
 pub returns-clause-kept : goal.returns-clause-kept
 returns-clause-kept c =
     let p = c.args.parts.now in
