@@ -17,3 +17,4 @@ mod Standing
 mod Searching
 mod Beginning
 mod Instructed
+mod Booting
