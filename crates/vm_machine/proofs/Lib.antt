@@ -18,3 +18,4 @@ mod Searching
 mod Beginning
 mod Instructed
 mod Taking
+mod Booting

@@ -1,8 +1,8 @@
 -- What a turn comes to after an event took an instruction.
-use Rattle.std.proofs.Common.{◌≡◌, ℕ, ◌+◌, ◌<◌, ◌≤◌, List, [], ◌∷◌, length, Option, Some, None, Bool, true, false, ap, refl, sym, ◌∙◌, subst, arith}
+use Rattle.std.proofs.Common.{◌≡◌, ℕ, zero, suc, ◌+◌, ◌<◌, ◌≤◌, List, [], ◌∷◌, length, Option, Some, None, Bool, true, false, ap, ap₂, refl, sym, ◌∙◌, subst, arith}
 use Rattle.std.specs.Prelude.{slice_get}
 use Rattle.std.proofs.lemmas.List.{length-map}
-use Rattle.cap_words.specs.Words.{W}
+use Rattle.cap_words.specs.Words.{W, same_word}
 use Rattle.instr_table.specs.declared.charge.Quota.{Quota}
 use Rattle.instr_table.specs.declared.charge.Quota.TheVariants.{Events}
 use Rattle.instr_table.specs.Event.{Sent, no_effects}
@@ -18,9 +18,16 @@ use Rattle.vm_turn.specs.State.{State, root}
 use Rattle.vm_turn.specs.Turn.{entry, go_on, finish, act, charged, step, run_out, out_by, spent_by}
 use Rattle.vm_turn.specs.Sound.{Sound, sent_by, sends}
 use Rattle.vm_turn.proofs.Sums.{sum-at}
+use Rattle.vm_step.specs.declared.lane.Lane.{Lane}
+use Rattle.vm_step.specs.Flight.{lane_of}
 use Rattle.vm_step.specs.declared.lane.StepEnd.{StepEnd}
 use Rattle.vm_step.specs.declared.lane.StepEnd.TheVariants.{Going as GoingOn, Commit, Abort, RanOut}
+use Rattle.event_queue.specs.Pending.{Pending}
+use Rattle.vm_machine.specs.declared.parts.Parts.{Parts}
+use Rattle.vm_machine.specs.View.{state_of}
+use Rattle.vm_machine.specs.Whole.{Kept, Waits, Whole}
 use Rattle.vm_machine.specs.Steps.{PaidTo, StepsAs, StepsTo}
+use Rattle.vm_machine.proofs.Lists.{get-map}
 use Rattle.vm_machine.proofs.Exhausting.{spent-under}
 
 -- an event's messages have numbers left
@@ -141,3 +148,47 @@ module _ (s t : State) (i : ℕ) (l : Flying) where
           let k = subst (λ (y : Option Quota). StepsAs y row end s t i l) p g in
           let m = subst (λ (y : Outcome). PaidTo y end s t i l paid) q k in
           let z : RanOut kind ≡ Commit = sym e ∙ m.0 in cc
+
+  pub run-out-step : (u : State) (a : Answer) (kind : Quota) → RunsOut kind → slice_get s.flight i ≡ Some l → ((k : Flying) → slice_get t.flight i ≡ Some k → u ≡ out_by (same_word k.own.sponsor root) kind (run_out t i k kind))
+      → ((k : Flying) → slice_get t.flight i ≡ Some k → a ≡ spent_by (same_word k.own.sponsor root) kind (entry k.number (Exhausted kind))) → step s i (Some l) ≡ (u, a)
+  run-out-step u a kind g h f e =
+      let state : u ≡ out_by (same_word l.own.sponsor root) kind (run_out s i l kind) = subst (λ (x : State). slice_get x.flight i ≡ Some l → u ≡ out_by (same_word l.own.sponsor root) kind (run_out x i l kind)) g.state (f l) h in
+      let answer : a ≡ spent_by (same_word l.own.sponsor root) kind (entry l.number (Exhausted kind)) = e l (ap (λ (x : State). slice_get x.flight i) g.state ∙ h) in
+      ap (charged s i l row) g.short_of ∙ ap₂ (λ (x : State) (y : Answer). (x, y)) (sym state) (sym answer)
+
+-- what is kept between turns, after an instruction that was not done
+pub whole-again : (p q : Parts) → Whole p → Kept q → q.grant ≡ p.grant → q.stuck ≡ p.stuck → state_of q ≡ state_of p → Whole q
+whole-again p q w k g b e = record {
+  kept = k;
+  sound = subst (λ (x : State). Sound q.grant x) (sym e) (subst (λ (a : Amounts). Sound a (state_of p)) (sym g) w.sound);
+  waits = λ h. subst (λ (x : State). Waits x) (sym e) (w.waits (sym b ∙ h));
+}
+
+-- a number left for each message, where the queue is the same
+pub sent-room : (p q : Parts) → Whole p → q.queue ≡ p.queue → (i : ℕ) (sheet : List Account) → state_of q ≡ record (state_of p) { sheet = sheet } → (l : Flying) → slice_get (state_of q).flight i ≡ Some l → length q.queue.given + length l.effects.sent ≤ q.queue.room
+sent-room p q w same i sheet e l h =
+    let at : slice_get (state_of p).flight i ≡ Some l = ap (λ (x : State). slice_get x.flight i) (sym e) ∙ h in
+    let fits = sent-fits p.grant (state_of p) w.sound i l at in
+    subst (λ (x : Pending). length x.given + length l.effects.sent ≤ x.room) (sym same) (omega (arith, fits, w.kept.queue_room))
+
+slice_get_some : {A : Type 0} (xs : List A) (i : ℕ) → i < length xs → slice_get xs i ≡ None → ⊥
+slice_get_some [] i h e = absurd (omega (arith, h))
+slice_get_some (x ∷ xs) zero h e = cc
+slice_get_some (x ∷ xs) (suc i) h e = slice_get_some xs i (omega (arith, h)) e
+
+-- the lane at a place
+pub lane-there : (p : Parts) (i : ℕ) → i < length p.flight.items → (l : Flying) × (slice_get (state_of p).flight i ≡ Some l)
+lane-there p i h = by (slice_get p.flight.items i) refl
+  where
+    by : (o : Option Lane) → slice_get p.flight.items i ≡ o → (l : Flying) × (slice_get (state_of p).flight i ≡ Some l)
+    by None e = absurd (slice_get_some p.flight.items i h e)
+    by (Some x) e = (lane_of p.quads.store x, get-map (lane_of p.quads.store) p.flight.items i x e)
+
+-- the same of a state that is the same
+pub turned : (s s0 u : State) (a : Answer) (i : ℕ) (l : Flying) → s ≡ s0 → step s i (Some l) ≡ (u, a) → (u ≡ (step s0 i (Some l)).0) × (a ≡ (step s0 i (Some l)).1)
+turned s s0 u a i l e h =
+    let k : (u, a) ≡ step s0 i (Some l) = sym h ∙ ap (λ (x : State). step x i (Some l)) e in
+    (ap (λ (y : State × Answer). y.0) k, ap (λ (y : State × Answer). y.1) k)
+
+pub lane-same : (s s0 : State) (i : ℕ) (l : Flying) → s ≡ s0 → slice_get s0.flight i ≡ Some l → slice_get s.flight i ≡ Some l
+lane-same s s0 i l e h = ap (λ (x : State). slice_get x.flight i) e ∙ h

@@ -5,6 +5,7 @@
 //! memory is taken at boot.
 #![tactic(auto)]
 
+mod boot;
 mod exhausted;
 mod finish;
 mod parts;

@@ -48,7 +48,8 @@ fn loosen(parts: &mut Parts, place: usize)
     requires whole { Whole parts.old }
     requires place { place < length parts.old.flight.items }
     ensures whole { Whole parts.new }
-    ensures parts { parts.new ≡ record parts.old { stuck = parts.new.stuck } }
+    ensures state { state_of parts.new ≡ state_of parts.old }
+    ensures place { length parts.new.flight.items ≡ length parts.old.flight.items }
     ensures stuck { parts.new.stuck ≡ true → (l : Flying) → slice_get (state_of parts.old).flight place ≡ Some l → starts (fetched (state_of parts.old).store l.code) ≡ false }
 {
     let code = parts.flight[place].code;
