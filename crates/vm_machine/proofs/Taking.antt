@@ -39,10 +39,10 @@ sent-fits grant s ok i l h =
     omega (arith, some, n, granted, spent-under Events s.sheet, ok.paid_for)
 
 module _ (s t : State) (i : ℕ) (l : Flying) where
-  abbrev row : Row
+  abbrev pub row : Row
   row = lane_row s.store s.sheet l
 
-  abbrev paid : List Account
+  abbrev pub paid : List Account
   paid = spend s.sheet l.own.sponsor row.charge
 
   pub record GoesOn : Type 0 where

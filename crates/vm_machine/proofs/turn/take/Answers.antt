@@ -72,6 +72,7 @@ returns-in-Commit-clause-turn c = λ l h.
     let i = c.args.place in
     let at = lane-same (state_of p) (state_of c.args.parts.now) i l c.loosen.ensures.state h in
     let x = committing (state_of p) (state_of q) i l c.instruct-end.result (c.instruct-end.ensures.state l at) c.in-Commit.is in
+    ap Finished (c.commit.ensures.entry l (ap (λ (y : State). slice_get y.flight i) x.state ∙ at)) ∙
     (turned (state_of p) (state_of c.args.parts.now) (state_of c.commit.new.parts) (Finished (entry l.number Committed)) i l c.loosen.ensures.state (commit-step (state_of p) (state_of q) i l (state_of c.commit.new.parts) x at c.commit.ensures.state)).1
 
 pub returns-in-Abort-clause-waits : goal.returns-in-Abort-clause-waits
@@ -93,6 +94,7 @@ returns-in-Abort-clause-turn c = λ l h.
     let i = c.args.place in
     let at = lane-same (state_of p) (state_of c.args.parts.now) i l c.loosen.ensures.state h in
     let x = aborting (state_of p) (state_of q) i l c.instruct-end.result c.in-Abort.reason (c.instruct-end.ensures.state l at) c.in-Abort.is in
+    ap Finished (c.fail.ensures.entry l (ap (λ (y : State). slice_get y.flight i) x.state ∙ at)) ∙
     (turned (state_of p) (state_of c.args.parts.now) (state_of c.fail.new.parts) (Finished (entry l.number (Failed c.in-Abort.reason))) i l c.loosen.ensures.state (abort-step (state_of p) (state_of q) i l (state_of c.fail.new.parts) c.in-Abort.reason x at c.fail.ensures.state)).1
 
 pub returns-in-RanOut-clause-waits : goal.returns-in-RanOut-clause-waits
