@@ -154,7 +154,7 @@ contains-among (m ∷ ms) n c = by (λ x. contains-among ms n x) c.0 c.1 c.2
     by later zero h e = let x : nat_eq m n ≡ true = grind (arith, nat_tests) in rw x refl
     by later (suc i) h e = found (nat_eq m n) refl (λ x. later (i, omega (arith, h), e))
 
-length-without : (low high : ℕ) (ns : List ℕ) (n : ℕ) → IsAscending low high ns → is_among n ns ≡ true → length (without n ns) + 1 ≡ length ns
+pub length-without : (low high : ℕ) (ns : List ℕ) (n : ℕ) → IsAscending low high ns → is_among n ns ≡ true → length (without n ns) + 1 ≡ length ns
 length-without low high [] n a h = cc
 length-without low high (m ∷ ms) n a h = by (nat_eq m n) refl h (λ g. length-without (suc m) high ms n a.2 g)
   where

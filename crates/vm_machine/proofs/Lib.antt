@@ -19,3 +19,4 @@ mod Beginning
 mod Instructed
 mod Taking
 mod Booting
+mod Delivering

@@ -66,7 +66,7 @@ cell-sponsor s (Cap n) c h =
     ap (λ (o : Option Slot). shows_sponsor (opaque_in o)) (slot-seen s SponsorHeld (Cap n) q.0 q.2)
 
 -- a number in flight is not ready
-flying-taken : (s : Store) (sponsors given : List W) (ready : List ℕ) (ls : List Lane) (k : ℕ) → Every (Flies s sponsors given ready) ls → is_in_flight k (flight_of s ls) ≡ true → is_among k ready ≡ false
+pub flying-taken : (s : Store) (sponsors given : List W) (ready : List ℕ) (ls : List Lane) (k : ℕ) → Every (Flies s sponsors given ready) ls → is_in_flight k (flight_of s ls) ≡ true → is_among k ready ≡ false
 flying-taken s sponsors given ready [] k h e = cc
 flying-taken s sponsors given ready (l ∷ ls) k h e = by (nat_eq l.number k) refl (λ f. flying-taken s sponsors given ready ls k h.1 f) e
   where

@@ -3,3 +3,5 @@ pub mod Flight
 pub mod View
 pub mod Whole
 pub mod Steps
+pub mod Turns
+pub mod Deliveries

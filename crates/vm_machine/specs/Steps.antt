@@ -1,5 +1,5 @@
 -- What one instruction of an event in flight does to the state of a machine.
-use Rattle.std.specs.Prelude.{◌≡◌, ℕ, Bool, true, false, List, Option, Some, None}
+use Rattle.std.specs.Prelude.{◌≡◌, ℕ, ◌%◌, length, slice_get, Bool, true, false, List, Option, Some, None}
 use Rattle.cap_words.specs.Words.{W}
 use Rattle.instr_table.specs.declared.op.Op.{Op}
 use Rattle.instr_table.specs.declared.op.Op.TheVariants.{SponsorStart}
@@ -8,7 +8,8 @@ use Rattle.instr_table.specs.Sheet.{Account, account, short, spend}
 use Rattle.instr_table.specs.Outcome.{Going, Outcome, Goes, Faults, Commits, Row}
 use Rattle.instr_table.specs.Lane.{Lane as Flying, lane_row}
 use Rattle.vm_turn.specs.State.{State}
-use Rattle.vm_turn.specs.Turn.{go_on}
+use Rattle.vm_turn.specs.declared.journal.Turn.{Turn as Answer}
+use Rattle.vm_turn.specs.Turn.{go_on, step}
 use Rattle.vm_step.specs.declared.lane.StepEnd.{StepEnd}
 use Rattle.vm_step.specs.declared.lane.StepEnd.TheVariants.{Going as GoingOn, Commit, Abort, RanOut}
 
@@ -35,3 +36,7 @@ is_start op = false
 abbrev pub starts : Option (Op × W) → Bool
 starts None = false
 starts (Some o) = is_start o.0
+
+-- the event in flight that the pick chooses takes one instruction, where one is in flight
+abbrev pub TakesOne : State → ℕ → State → Answer → Type 0
+TakesOne s pick t a = (t, a) ≡ step s (pick % length s.flight) (slice_get s.flight (pick % length s.flight))

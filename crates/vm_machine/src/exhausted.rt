@@ -31,6 +31,7 @@ fn stop(parts: &mut Parts, who: Word) -> Option<Word>
     ensures kept { Kept parts.new }
     ensures state { state_of parts.new ≡ record (state_of parts.old) { sheet = stop (state_of parts.old).sheet who } }
     ensures signal { result ≡ prepared (state_of parts.old).sheet who }
+    ensures grant { parts.new.grant ≡ parts.old.grant }
     ensures queue { parts.new.queue ≡ parts.old.queue }
     ensures place { length parts.new.flight.items ≡ length parts.old.flight.items }
 {
@@ -76,6 +77,7 @@ fn release(parts: &mut Parts, signal: Word, kind: Quota)
     ensures kept { Kept parts.new }
     ensures state { state_of parts.new ≡ released (Some signal) kind (state_of parts.old) }
     ensures stuck { parts.new.stuck ≡ false }
+    ensures grant { parts.new.grant ≡ parts.old.grant }
 {
     fill(&mut parts.quads, signal, signal_word(kind));
     let _number = parts.queue.append(signal);
@@ -91,6 +93,7 @@ fn release_any(parts: &mut Parts, signal: Option<Word>, kind: Quota)
     ensures kept { Kept parts.new }
     ensures state { state_of parts.new ≡ released signal kind (state_of parts.old) }
     ensures stuck { parts.old.stuck ≡ false → parts.new.stuck ≡ false }
+    ensures grant { parts.new.grant ≡ parts.old.grant }
 {
     if let Some(event) = signal {
         release(parts, event, kind);
@@ -106,6 +109,7 @@ pub(crate) fn run_out(parts: &mut Parts, place: usize, kind: Quota) -> Turn
     ensures state { (l : Flying) → slice_get (state_of parts.old).flight place ≡ Some l → state_of parts.new ≡ out_by (same_word l.own.sponsor root) kind (run_out (state_of parts.old) place l kind) }
     ensures turn { (l : Flying) → slice_get (state_of parts.old).flight place ≡ Some l → result ≡ spent_by (same_word l.own.sponsor root) kind (entry l.number (RanOut kind)) }
     ensures stuck { parts.new.stuck ≡ false }
+    ensures grant { parts.new.grant ≡ parts.old.grant }
 {
     let event = parts.flight[place].event;
     let who = payer_of(&parts.quads, event);
@@ -122,6 +126,7 @@ fn end_run(parts: &mut Parts, who: Word, kind: Quota, entry: Entry) -> Turn
     ensures state { state_of parts.new ≡ out_by (same_word who root) kind (state_of parts.old) }
     ensures turn { result ≡ spent_by (same_word who root) kind entry }
     ensures stuck { parts.new.stuck ≡ parts.old.stuck }
+    ensures grant { parts.new.grant ≡ parts.old.grant }
 {
     let root = Word::cap(0);
     if is_same(who, root) {

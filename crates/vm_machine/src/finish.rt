@@ -28,6 +28,7 @@ pub(crate) fn fail(parts: &mut Parts, place: usize, outcome: Outcome) -> Entry
     ensures entry { (l : Flying) → slice_get (state_of parts.old).flight place ≡ Some l → result ≡ entry l.number outcome }
     ensures queue { parts.new.queue ≡ parts.old.queue }
     ensures stuck { parts.new.stuck ≡ false }
+    ensures grant { parts.new.grant ≡ parts.old.grant }
 {
     let lane = parts.flight.remove(place);
     let actor = target_of(&parts.quads, lane.event);
@@ -50,6 +51,7 @@ pub(crate) fn commit(parts: &mut Parts, place: usize) -> Entry
     ensures state { (l : Flying) → slice_get (state_of parts.old).flight place ≡ Some l → state_of parts.new ≡ finish (state_of parts.old) place l (state_of parts.old).sheet l.effects Committed }
     ensures entry { (l : Flying) → slice_get (state_of parts.old).flight place ≡ Some l → result ≡ entry l.number Committed }
     ensures stuck { parts.new.stuck ≡ false }
+    ensures grant { parts.new.grant ≡ parts.old.grant }
 {
     let lane = parts.flight.remove(place);
     let actor = target_of(&parts.quads, lane.event);
