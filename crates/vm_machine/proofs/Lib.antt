@@ -20,3 +20,5 @@ mod Instructed
 mod Taking
 mod Booting
 mod Delivering
+mod Turning
+mod Waiting

@@ -81,19 +81,28 @@ first-found p k =
         (λ w c h. k.books.listed w (cell-sponsor p.quads.store w c h))
         (stands p.queue (state_of p).flight k.ascending (λ n h. flying-taken p.quads.store (names p.sheet.rows) p.queue.given p.queue.ready p.flight.items n k.flying h))
 
-number_of : (given : List W) (o : Option ℕ) → o ≡ option_map (λ (m : Message). m.number) (option_map (message_of given) o)
-number_of given None = refl
-number_of given (Some n) = refl
-
 -- so the machine's next message is the written turn's, where a lane is free
-pub found-next : (p : Parts) (o : Option ℕ) → Kept p → o ≡ first_ready p.quads.store p.queue.given p.queue.ready → length p.flight.items < p.lanes → o ≡ option_map (λ (m : Message). m.number) (dispatchable (state_of p))
+pub found-next : (p : Parts) (o : Option ℕ) → Kept p → o ≡ first_ready p.quads.store p.queue.given p.queue.ready → length p.flight.items < p.lanes → option_map (message_of p.queue.given) o ≡ dispatchable (state_of p)
 found-next p o k e free =
     let n : length (state_of p).flight ≡ length p.flight.items = length-map p.flight.items (lane_of p.quads.store) in
     let yes : nat_lt (length (state_of p).flight) p.lanes ≡ true = grind (arith, nat_tests, n, free) in
-    number_of p.queue.given o
-    ∙ ap (λ (x : Option ℕ). option_map (λ (m : Message). m.number) (option_map (message_of p.queue.given) x)) e
-    ∙ ap (option_map (λ (m : Message). m.number)) (sym (first-found p k))
-    ∙ ap (λ (b : Bool). option_map (λ (m : Message). m.number) (if b then first_to_go (state_of p).store (state_of p).sheet (state_of p).flight (state_of p).messages else None)) (sym yes)
+    ap (option_map (message_of p.queue.given)) e
+    ∙ sym (first-found p k)
+    ∙ ap (λ (b : Bool). if b then first_to_go (state_of p).store (state_of p).sheet (state_of p).flight (state_of p).messages else None) (sym yes)
+
+-- no message is dispatched where no lane is free, or none can go
+pub none-next : (p : Parts) → p.lanes ≤ length p.flight.items → None ≡ dispatchable (state_of p)
+none-next p full =
+    let n : length (state_of p).flight ≡ length p.flight.items = length-map p.flight.items (lane_of p.quads.store) in
+    let no : nat_lt (length (state_of p).flight) p.lanes ≡ false = grind (arith, nat_tests, n, full) in
+    ap (λ (b : Bool). if b then first_to_go (state_of p).store (state_of p).sheet (state_of p).flight (state_of p).messages else None) (sym no)
+
+pub waits-next : (s : State) → Waits s → None ≡ dispatchable s
+waits-next s w = by (nat_lt (length s.flight) s.lanes)
+  where
+    by : (b : Bool) → None ≡ (if b then first_to_go s.store s.sheet s.flight s.messages else None)
+    by true = sym w
+    by false = refl
 
 -- where the search found none, none can go
 pub found-none : (p : Parts) (o : Option ℕ) → Kept p → o ≡ first_ready p.quads.store p.queue.given p.queue.ready → is_none o ≡ true → Waits (state_of p)

@@ -7,7 +7,11 @@ use Rattle.vm_turn.specs.declared.journal.Turn.{Turn as Answer}
 use Rattle.vm_turn.specs.declared.journal.Turn.TheVariants.{Stepped, Finished}
 use Rattle.vm_turn.specs.State.{State}
 use Rattle.vm_turn.specs.Turn.{entry, step}
+use Rattle.instr_table.specs.Code.{fetched}
+use Rattle.vm_machine.specs.Steps.{starts}
 use Rattle.vm_machine.specs.View.{state_of}
+use Rattle.vm_machine.specs.Whole.{Waits}
+use Rattle.vm_machine.proofs.Waiting.{waits-on}
 use Rattle.vm_machine.proofs.Taking.{paid, going-on, going-step, committing, commit-step, aborting, abort-step, running-out, run-out-step, whole-again, sent-room, lane-there, lane-same, turned}
 use Rattle.vm_machine.proofs.turn.take.Goals as goal
 
@@ -33,7 +37,16 @@ run_out-requires-clause-whole c =
     whole-again p q c.loosen.ensures.whole c.instruct-end.ensures.kept c.instruct-end.ensures.grant c.instruct-end.ensures.stuck x.state
 
 pub returns-in-Going-clause-waits : goal.returns-in-Going-clause-waits
-returns-in-Going-clause-waits c = ?
+returns-in-Going-clause-waits c = λ h.
+    let p = c.loosen.new.parts in
+    let q = c.instruct-end.new.parts in
+    let i = c.args.place in
+    let l = lane-there p i (subst (λ (n : ℕ). i < n) (sym c.loosen.ensures.place) c.requires.place) in
+    let x = going-on (state_of p) (state_of q) i l.0 c.instruct-end.result (c.instruct-end.ensures.state l.0 l.1) c.in-Going.is in
+    let b = sym c.instruct-end.ensures.stuck ∙ h in
+    let quiet = c.loosen.ensures.stuck b l.0 (ap (λ (y : State). slice_get y.flight i) (sym c.loosen.ensures.state) ∙ l.1) in
+    subst (λ (y : State). Waits y) (sym x.state)
+        (waits-on p.grant (state_of p) c.loosen.ensures.whole.sound i l.0 x.going l.1 x.outcome (subst (λ (y : State). starts (fetched y.store l.0.code) ≡ false) (sym c.loosen.ensures.state) quiet) (c.loosen.ensures.whole.waits b))
 
 pub returns-in-Going-clause-state : goal.returns-in-Going-clause-state
 returns-in-Going-clause-state c = λ l h.
