@@ -6,3 +6,6 @@ pub mod Spells
 pub mod Formed
 pub mod Sizes
 pub mod Names
+pub mod Laws
+pub mod Writes
+pub mod Prints

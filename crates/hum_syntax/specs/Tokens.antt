@@ -20,6 +20,10 @@ placed_of t = placed t.kind t.from t.to
 abbrev pub all_placed : List Token → List Placed
 all_placed = map placed_of
 
+-- the tokens without their places
+abbrev pub kinds_of : List Placed → List TokenKind
+kinds_of = map (λ t. t.kind)
+
 -- a token weighs 1, a symbol its name's bytes more, and a text its code points more
 abbrev pub weight_of : TokenKind → ℕ
 weight_of (k.Symbol run) = 1 + length run
@@ -29,6 +33,11 @@ weight_of _ = 1
 abbrev pub weight : List Placed → ℕ
 weight [] = 0
 weight (t ∷ ts) = weight_of t.kind + weight ts
+
+-- what tokens weigh wherever they stand
+abbrev pub weight_of_kinds : List TokenKind → ℕ
+weight_of_kinds [] = 0
+weight_of_kinds (k ∷ ks) = weight_of k + weight_of_kinds ks
 
 -- the most that the tokens of a program weigh
 abbrev pub weight_limit : ℕ

@@ -1,8 +1,7 @@
 -- What the charges are that depend on the state.
-use Rattle.std.proofs.Common.{◌≡◌, ℕ, suc, zero, ◌+◌, ◌≤◌, ◌<◌, List, [], ◌∷◌, length, Option, Some, None, Bool, true, false, if◌then◌else◌, nat_lt, IsTrue, IfSome, refl, ap, sym, ◌∙◌, arith}
+use Rattle.std.proofs.Common.{◌≡◌, ℕ, suc, zero, List, [], ◌∷◌, length, Option, Some, None, Bool, true, false, if◌then◌else◌, nat_lt, IsTrue, IfSome, refl, ap, sym, ◌∙◌, arith}
 use Rattle.std.specs.Prelude.{slice_get, option_map, is_none}
 use Rattle.std.proofs.lemmas.Bool.Decides.{nat_tests}
-use Rattle.std.proofs.lemmas.Option.{slice_get_past, slice_get_within}
 use Rattle.cap_words.specs.Words.{W, Cap, undef}
 use Rattle.cap_words.specs.Seen.{Seen, SponsorSlot, SpentSlot, seen}
 use Rattle.quad_memory.specs.Memory.{Memory}
@@ -10,16 +9,12 @@ use Rattle.instr_table.specs.declared.charge.Charge.{Charge}
 use Rattle.instr_table.specs.declared.op.Op.{Op}
 use Rattle.instr_table.specs.Spelling.{is_op, charge_of}
 use Rattle.instr_table.specs.Lists.{next_quad}
-use Rattle.instr_table.specs.Event.{Own, Effects, Sponsors}
+use Rattle.instr_table.specs.Event.{Sponsors}
 use Rattle.instr_table.specs.Sheet.{Account}
 use Rattle.instr_table.specs.Outcome.{Row, charge, does, goes}
 use Rattle.instr_table.specs.SponsorRows.{most_sponsors, new_row}
-use Rattle.instr_table.specs.Row.{row}
-use Rattle.instr_table.specs.Laws.{IsCharged}
 use Rattle.instr_table.proofs.Charges.{row-charged}
-use Rattle.vm_sponsor.specs.declared.amounts.SheetRow.{SheetRow}
 use Rattle.vm_sponsor.specs.Ledger.{Ledger}
-use Rattle.vm_sponsor.specs.Sheets.{shown}
 use Rattle.vm_effects.specs.Gathered.{effects_of}
 use Rattle.vm_step.specs.declared.lane.Lane.{Lane}
 use Rattle.vm_step.specs.Flight.{own_at}

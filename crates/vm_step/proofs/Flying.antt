@@ -1,20 +1,19 @@
 -- What an event in flight has of its own, after quads were taken or sponsors were changed.
-use Rattle.std.proofs.Common.{◌≡◌, ℕ, suc, zero, List, [], ◌∷◌, ◌++◌, Option, Some, None, Bool, true, false, refl, ap, sym, ◌∙◌, subst, inl, inr, ◌⊎◌}
+use Rattle.std.proofs.Common.{◌≡◌, ℕ, suc, zero, List, [], ◌∷◌, ◌++◌, Option, Some, None, true, false, refl, ap, sym, ◌∙◌, subst, inl, inr}
 use Rattle.std.specs.Prelude.{slice_get, option_map}
 use Rattle.std.proofs.lemmas.Option.{slice_get_within}
 use Rattle.cap_words.specs.declared.word.Quad.{Quad}
 use Rattle.cap_words.specs.declared.word.Tag.{Tag}
 use Rattle.cap_words.specs.declared.word.Tag.TheVariants.{Actor, Event, SponsorHeld, SponsorSpent}
 use Rattle.cap_words.specs.Words.{W, Fix, Rom, Ram, Cap}
-use Rattle.cap_words.specs.Store.{Store, opaque_cell, cap_place}
-use Rattle.cap_words.specs.Seen.{Seen, Slot, OpenSlot, ActorSlot, UnbornSlot, EventSlot, SponsorSlot, SpentSlot, seen, grown, slot_seen, cell_seen}
+use Rattle.cap_words.specs.Store.{Store, opaque_cell}
+use Rattle.cap_words.specs.Seen.{Seen, Slot, OpenSlot, ActorSlot, UnbornSlot, EventSlot, SponsorSlot, SpentSlot, grown, slot_seen, cell_seen}
 use Rattle.cap_words.specs.Frame.{Among, Framed}
 use Rattle.cap_words.proofs.Places.{get-left}
 use Rattle.cap_words.proofs.Stores.{opaque_twice}
 use Rattle.cap_words.proofs.Frames.{opaque-framed}
-use Rattle.quad_memory.specs.Cells.{sponsor_at}
 use Rattle.quad_memory.proofs.Typed.{Sponsor, sponsor, sponsor-quads}
-use Rattle.instr_table.specs.Types.{Shown, Readable, opaque_in, look_up, shows_sponsor, is_sponsor}
+use Rattle.instr_table.specs.Types.{Readable, opaque_in, look_up, shows_sponsor, is_sponsor}
 use Rattle.instr_table.specs.Lists.{pair_quad}
 use Rattle.instr_table.specs.Event.{Own, Effect, Nothing, Sends, Creates, Assigns, Becomes, Sponsors, Grants, Reclaims, Starts, Stops}
 use Rattle.instr_table.specs.Lane.{Item, push_one, push_all, top_at}
@@ -26,7 +25,7 @@ use Rattle.vm_sponsor.specs.Sheets.{IsThere, quads_of}
 use Rattle.vm_sponsor.proofs.Framed.{Aside as IsAside}
 use Rattle.vm_effects.specs.declared.effects.Effects.{Effects as Gathered}
 use Rattle.vm_effects.specs.Gathered.{effects_of, IsLinked, own_words}
-use Rattle.vm_effects.proofs.Apart.{Owned, owned, own-other}
+use Rattle.vm_effects.proofs.Apart.{Owned, owned}
 use Rattle.vm_effects.proofs.Records.{effects-framed}
 use Rattle.vm_step.specs.Flight.{own_at, Aside}
 use Rattle.vm_step.specs.Reads.{IsInFlight}

@@ -1,13 +1,9 @@
 -- What moves come to for the whole machine, and what a payment leaves.
-use Rattle.std.proofs.Common.{◌≡◌, ℕ, ◌+◌, ◌≤◌, List, [], ◌++◌, Option, Some, None, Bool, true, refl, ap, ap₂, sym, ◌∙◌, subst, arith, drop, length}
-use Rattle.std.specs.Prelude.{map}
-use Rattle.std.specs.List.{sum_by}
-use Rattle.std.proofs.lemmas.List.{length-map}
-use Rattle.cap_words.specs.declared.word.Quad.{Quad}
+use Rattle.std.proofs.Common.{◌≡◌, ℕ, ◌+◌, ◌≤◌, List, [], Some, None, true, refl, ap, ap₂, sym, ◌∙◌, subst, arith, drop, length}
 use Rattle.cap_words.specs.declared.word.Tag.TheVariants.{Actor, Event}
 use Rattle.cap_words.specs.Words.{W}
-use Rattle.cap_words.specs.Store.{Store, used, opaque_cell}
-use Rattle.cap_words.specs.Seen.{Seen, Slot, EventSlot, ActorSlot, seen, grown, slot_seen, erase}
+use Rattle.cap_words.specs.Store.{Store, used}
+use Rattle.cap_words.specs.Seen.{Seen, Slot, EventSlot, ActorSlot, seen, grown, slot_seen}
 use Rattle.cap_words.specs.Frame.{Among, Framed}
 use Rattle.cap_words.proofs.Frames.{opaque-framed, framed-more}
 use Rattle.quad_memory.specs.Memory.{Memory}
@@ -15,14 +11,14 @@ use Rattle.instr_table.specs.declared.charge.Charge.{Charge}
 use Rattle.instr_table.specs.Types.{is_sponsor}
 use Rattle.instr_table.specs.Lists.{next_quad}
 use Rattle.instr_table.specs.Event.{Own, Effects, Effect, Nothing, Sends, Creates, Assigns, Becomes, Sponsors, Grants, Reclaims, Starts, Stops}
-use Rattle.instr_table.specs.Sheet.{Account, account, short, spend, paid, sheet_after, no_account}
+use Rattle.instr_table.specs.Sheet.{Account, account, short, spend, paid, sheet_after}
 use Rattle.instr_table.specs.Outcome.{Going, Outcome, Goes, Faults, Commits}
-use Rattle.instr_table.specs.Lane.{Item, push_all, after_going, gone, Lane as Flying}
+use Rattle.instr_table.specs.Lane.{Item, after_going, gone}
 use Rattle.instr_table.specs.Laws.{Covers}
 use Rattle.instr_table.specs.Making.{MakesNamed, MadeWith}
 use Rattle.instr_table.proofs.Authorities.{pushed-store}
 use Rattle.vm_sponsor.specs.Ledger.{Ledger, names}
-use Rattle.vm_sponsor.specs.Sheets.{sheet_of, IsThere, quads_of}
+use Rattle.vm_sponsor.specs.Sheets.{IsThere, quads_of}
 use Rattle.vm_sponsor.specs.Keeps.{Keeps}
 use Rattle.vm_sponsor.proofs.Plain.{sum-less, covered}
 use Rattle.vm_sponsor.proofs.Framed.{sheet-framed, belongs-framed, Aside as IsAside}
@@ -31,7 +27,7 @@ use Rattle.vm_effects.specs.Gathered.{effects_of, own_words}
 use Rattle.vm_step.specs.declared.lane.Lane.{Lane}
 use Rattle.vm_step.specs.declared.lane.StepEnd.{StepEnd}
 use Rattle.vm_step.specs.Stack.{items_from, IsStack}
-use Rattle.vm_step.specs.Flight.{own_at, stack_of, lane_of, lane_words, Held, Aside}
+use Rattle.vm_step.specs.Flight.{own_at, stack_of, lane_words, Held, Aside}
 use Rattle.vm_step.specs.Books.{Books, held_quads}
 use Rattle.vm_step.specs.Step.{sheet_in, payer, GoesOn, PaysOnly, ActsBy, Stays}
 use Rattle.vm_step.specs.Reads.{IsInFlight}

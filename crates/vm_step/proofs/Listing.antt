@@ -1,11 +1,11 @@
 -- Results that the operations on dictionaries and deques make.
-use Rattle.std.proofs.Common.{◌≡◌, ℕ, ◌+◌, List, [], ◌∷◌, ◌++◌, ℤ, pos, Bool, true, false, if◌then◌else◌, refl, ap, ap₂, sym, ◌∙◌, subst, arith, length}
+use Rattle.std.proofs.Common.{◌≡◌, ℕ, ◌+◌, List, [], ◌∷◌, ℤ, pos, Bool, true, false, if◌then◌else◌, refl, ap, ap₂, sym, ◌∙◌, subst, arith, length}
 use Rattle.std.specs.Ordering.{int_eq}
 use Rattle.cap_words.specs.Words.{W}
-use Rattle.cap_words.specs.Seen.{Seen, seen}
+use Rattle.cap_words.specs.Seen.{seen}
 use Rattle.quad_memory.specs.Memory.{Memory}
 use Rattle.instr_table.specs.Lists.{next_quad, Built}
-use Rattle.instr_table.specs.Deque.{Ends, ends, Taking, taking}
+use Rattle.instr_table.specs.Deque.{ends, Taking, taking}
 use Rattle.instr_table.specs.Event.{Nothing}
 use Rattle.instr_table.specs.Outcome.{Row, goes, does, gives}
 use Rattle.instr_table.specs.Row.{take_row, popped, pulled}

@@ -1,17 +1,16 @@
 -- Cells that are made of items, and words of cells that are pushed.
-use Rattle.std.proofs.Common.{◌≡◌, ℕ, zero, suc, ◌+◌, ◌-◌, ◌≤◌, ◌<◌, List, [], ◌∷◌, ◌++◌, Option, Bool, true, false, if◌then◌else◌, refl, ap, ap₂, sym, ◌∙◌, subst, arith, take, length, get_or, add-one}
+use Rattle.std.proofs.Common.{◌≡◌, ℕ, zero, suc, ◌+◌, ◌-◌, ◌≤◌, ◌<◌, List, [], ◌∷◌, ◌++◌, Option, Bool, true, if◌then◌else◌, refl, ap, ap₂, sym, ◌∙◌, subst, arith, take, length, get_or, add-one}
 use Rattle.std.specs.Prelude.{reverse}
 use Rattle.std.proofs.lemmas.List.{length-reverse}
 use Rattle.std.proofs.lemmas.List.{take_more, take_all as take-whole}
 use Rattle.cap_words.specs.declared.word.Quad.{Quad}
 use Rattle.cap_words.specs.Words.{W, Ram, undef}
 use Rattle.cap_words.specs.Store.{used}
-use Rattle.cap_words.specs.Seen.{Seen, Slot, OpenSlot, seen, grown, cell_seen}
+use Rattle.cap_words.specs.Seen.{Seen, Slot, OpenSlot, seen, cell_seen}
 use Rattle.quad_memory.specs.Memory.{Memory}
 use Rattle.instr_table.specs.Types.{is_makeable}
 use Rattle.instr_table.specs.Lists.{next_quad, item, top_items, pair_quad, linked, last_linked, chained, Built, head_in, tail_in, parted, field_in, fields_in, one_cell}
-use Rattle.instr_table.specs.Event.{Nothing}
-use Rattle.instr_table.specs.Outcome.{Row, goes, does, gives, charge}
+use Rattle.instr_table.specs.Outcome.{Row, goes, gives, charge}
 use Rattle.instr_table.specs.Row.{quad_row, item_of, listed}
 use Rattle.instr_table.proofs.Charges.{length-linked, length-parted, length-top_items}
 use Rattle.vm_dict.specs.Made.{Takes}
@@ -23,7 +22,7 @@ use Rattle.vm_step.specs.declared.lane.StepEnd.{StepEnd}
 use Rattle.vm_step.specs.Stack.{items_from, IsStack}
 use Rattle.vm_step.specs.Moves.{Ready, Moves, Turns, restacking, values_of, values_in}
 use Rattle.vm_step.proofs.Stacks.{items-grown, stack-grown}
-use Rattle.vm_step.proofs.Moving.{moves-then, ready-moves, ready-takes, takes-turns}
+use Rattle.vm_step.proofs.Moving.{ready-moves, ready-takes, takes-turns}
 use Rattle.vm_step.proofs.Pushing.{length-take}
 
 -- a stack stands while cells are taken

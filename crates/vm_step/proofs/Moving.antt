@@ -1,16 +1,15 @@
 -- How moves arise and follow on one another.
-use Rattle.std.proofs.Common.{◌≡◌, ℕ, suc, ◌+◌, ◌≤◌, List, [], ◌∷◌, ◌++◌, refl, ap, ap₂, sym, ◌∙◌, subst, arith, drop, length, append-nil, append_assoc, length-append}
-use Rattle.std.proofs.lemmas.List.{length-map}
+use Rattle.std.proofs.Common.{◌≡◌, ℕ, suc, ◌+◌, ◌≤◌, List, [], ◌∷◌, ◌++◌, refl, ap, ap₂, sym, ◌∙◌, subst, arith, drop, length, append-nil, length-append}
 use Rattle.cap_words.specs.Words.{W, Ram}
 use Rattle.cap_words.specs.Store.{Store, used, taken}
 use Rattle.cap_words.specs.Seen.{Seen, Slot, OpenSlot, seen, grown}
-use Rattle.cap_words.specs.Frame.{Among, Framed}
+use Rattle.cap_words.specs.Frame.{Framed}
 use Rattle.cap_words.proofs.Frames.{framed-refl, framed-taken, framed-then}
 use Rattle.quad_memory.specs.Memory.{Memory}
 use Rattle.instr_table.specs.Lists.{next_quad, pair_quad}
-use Rattle.instr_table.specs.Event.{Effect, Nothing, Effects, with_effect}
-use Rattle.instr_table.specs.Outcome.{Going, Outcome, Goes, goes, does}
-use Rattle.instr_table.specs.Lane.{Item, push_one, push_all, after_going, top_at}
+use Rattle.instr_table.specs.Event.{Effect, Nothing, with_effect}
+use Rattle.instr_table.specs.Outcome.{Going, goes, does}
+use Rattle.instr_table.specs.Lane.{Item, push_one, push_all, top_at}
 use Rattle.vm_dict.specs.Made.{Takes, opened}
 use Rattle.vm_dict.proofs.Taking.{next-used}
 use Rattle.vm_effects.specs.Gathered.{effects_of, IsLinked}

@@ -1,14 +1,14 @@
 -- Values that are pushed one after another.
-use Rattle.std.proofs.Common.{◌≡◌, ℕ, zero, suc, ◌+◌, ◌-◌, ◌≤◌, ◌<◌, List, [], ◌∷◌, ◌++◌, refl, ap, ap₂, sym, ◌∙◌, subst, arith, take, length, get_or, drop, ℤ, pos, negsuc}
-use Rattle.std.specs.Prelude.{reverse, map}
+use Rattle.std.proofs.Common.{◌≡◌, ℕ, zero, suc, ◌+◌, ◌-◌, ◌≤◌, ◌<◌, List, [], ◌∷◌, ◌++◌, refl, ap, ap₂, sym, ◌∙◌, subst, arith, take, length, get_or, drop, pos, negsuc}
+use Rattle.std.specs.Prelude.{reverse}
 use Rattle.std.proofs.lemmas.List.{reverse-append, drop-map}
 use Rattle.std.proofs.lemmas.List.{take_more, take_all as take-whole, length-reverse, get_or-reverse}
 use Rattle.cap_words.specs.Words.{W, undef}
-use Rattle.cap_words.specs.Seen.{Seen, Slot, seen, grown}
+use Rattle.cap_words.specs.Seen.{Seen, seen, grown}
 use Rattle.cap_words.proofs.Frames.{framed-refl}
 use Rattle.quad_memory.specs.Memory.{Memory}
 use Rattle.instr_table.specs.Lists.{item, top_items, rolled}
-use Rattle.instr_table.specs.Lane.{Item, values, push_all}
+use Rattle.instr_table.specs.Lane.{Item, values}
 use Rattle.instr_table.proofs.Authorities.{pushed-store}
 use Rattle.instr_table.proofs.Charges.{length-top_items}
 use Rattle.vm_step.specs.declared.lane.Lane.{Lane}
@@ -17,7 +17,7 @@ use Rattle.vm_step.specs.declared.lane.Stack.{Stack as Items}
 use Rattle.vm_step.specs.Moves.{Ready, Moves, restacking, values_in, values_of}
 use Rattle.vm_step.specs.Flight.{stack_of}
 use Rattle.vm_step.proofs.Stacks.{items-grown, stack-grown}
-use Rattle.vm_step.proofs.Moving.{grown-nil, moves-then, ready-moves, ready-less}
+use Rattle.vm_step.proofs.Moving.{grown-nil, moves-then, ready-moves}
 
 pub get_or-top_items : (n : ℕ) (vs : List W) (i : ℕ) (d : W) → i < n → get_or (top_items n vs) i d ≡ get_or vs i undef
 get_or-top_items zero vs i d h = absurd (omega arith)

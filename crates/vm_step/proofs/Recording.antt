@@ -1,6 +1,6 @@
 -- What the operations on actors make, and do to the record.
-use Rattle.std.proofs.Common.{◌≡◌, ℕ, ◌+◌, List, [], ◌∷◌, Option, Some, None, Bool, true, false, if◌then◌else◌, Result, Ok, Err, refl, ap, ap₂, sym, ◌∙◌, subst, arith}
-use Rattle.std.specs.Prelude.{is_ok, is_none}
+use Rattle.std.proofs.Common.{◌≡◌, ℕ, [], ◌∷◌, Option, Some, None, true, refl, ap, sym, ◌∙◌, subst}
+use Rattle.std.specs.Prelude.{is_none}
 use Rattle.cap_words.specs.Words.{W, Cap}
 use Rattle.cap_words.specs.Store.{used}
 use Rattle.cap_words.specs.Seen.{EventSlot, UnbornSlot, seen, grown}
@@ -8,17 +8,16 @@ use Rattle.cap_words.specs.Frame.{Framed}
 use Rattle.cap_words.proofs.Frames.{framed-refl}
 use Rattle.quad_memory.specs.Memory.{Memory}
 use Rattle.instr_table.specs.Lists.{next_quad, item}
-use Rattle.instr_table.specs.Event.{Made, Sent, Behaviour, Effects, Effect, Sends, Creates, Assigns, Becomes, with_effect, has_created}
-use Rattle.instr_table.specs.Outcome.{Row, goes, does, faults, not_fresh, second_become}
-use Rattle.instr_table.specs.ActorRows.{message_to, create_row, assign_row, become_row}
+use Rattle.instr_table.specs.Event.{Made, Behaviour, Sends, Creates, Assigns, Becomes, with_effect}
+use Rattle.instr_table.specs.Outcome.{goes, does}
+use Rattle.instr_table.specs.ActorRows.{create_row, become_row}
 use Rattle.vm_dict.proofs.Taking.{next-used}
 use Rattle.vm_effects.specs.declared.effects.Effects.{Effects as Gathered}
 use Rattle.vm_effects.specs.Gathered.{effects_of, next_of, IsLinked, own_words}
 use Rattle.vm_step.specs.declared.lane.Lane.{Lane}
 use Rattle.vm_step.specs.declared.lane.StepEnd.{StepEnd}
-use Rattle.vm_step.specs.declared.lane.StepEnd.TheVariants.{Abort}
 use Rattle.vm_step.specs.Moves.{Ready, Turns, values_of}
-use Rattle.vm_step.proofs.Moving.{Makes, makes-turns, ready-makes, grown-nil}
+use Rattle.vm_step.proofs.Moving.{Makes, makes-turns, grown-nil}
 
 module _ (a b : Memory) (l : Lane) (e : Gathered) (linked : IsLinked b.store e) (frame : Framed a.store b.store (own_words (effects_of a.store l.effects))) (room : b.room ≡ a.room) where
   pub makes-sends : (sponsor target content : W) → effects_of b.store e ≡ with_effect (effects_of a.store l.effects) (Sends (record { event = Cap (used a.store); sponsor = sponsor; target = target; content = content }))

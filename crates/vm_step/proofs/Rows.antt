@@ -1,5 +1,5 @@
 -- Rows before and after the payment, and how an instruction is put together.
-use Rattle.std.proofs.Common.{◌≡◌, ℕ, ◌+◌, List, [], ◌∷◌, length, Option, Some, None, Bool, true, false, if◌then◌else◌, nat_lt, IsTrue, IfSome, Result, Ok, Err, refl, ap, ap₂, sym, ◌∙◌, subst, arith, suc}
+use Rattle.std.proofs.Common.{◌≡◌, ℕ, List, [], ◌∷◌, length, Option, Some, None, Bool, true, false, if◌then◌else◌, nat_lt, IsTrue, IfSome, Result, Ok, Err, refl, ap, ap₂, sym, ◌∙◌, subst, suc}
 use Rattle.cap_words.specs.Words.{W, same_word}
 use Rattle.cap_words.specs.Seen.{Seen, seen}
 use Rattle.quad_memory.specs.Memory.{Memory}
@@ -14,10 +14,10 @@ use Rattle.instr_table.specs.Types.{is_actor, is_sponsor}
 use Rattle.instr_table.specs.Event.{Own, Effects, Starts}
 use Rattle.cap_words.specs.Seen.{EventSlot, SponsorSlot, SpentSlot}
 use Rattle.cap_words.specs.Words.{Cap, undef}
-use Rattle.instr_table.specs.Sheet.{Account, account, at_account, short, spend, paid, runs, runs_in}
+use Rattle.instr_table.specs.Sheet.{Account, account, short, spend, paid, runs, runs_in}
 use Rattle.instr_table.specs.Outcome.{Row, charge, does, goes, faults, not_actor, not_sponsor, is_running}
 use Rattle.instr_table.specs.Event.{Sponsors}
-use Rattle.instr_table.specs.SponsorRows.{most_sponsors, kind_of_grant}
+use Rattle.instr_table.specs.SponsorRows.{most_sponsors}
 use Rattle.instr_table.specs.Row.{row, row_at}
 use Rattle.instr_table.proofs.Charges.{row-charged, row_at-covers}
 use Rattle.instr_table.proofs.Makings.{row_at-makes}

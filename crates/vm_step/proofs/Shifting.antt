@@ -1,24 +1,23 @@
 -- What an operation on sponsors does before the items move.
-use Rattle.std.proofs.Common.{◌≡◌, ℕ, ◌+◌, ◌≤◌, List, [], ◌∷◌, ◌++◌, Bool, true, false, Option, Some, None, suc, zero, refl, ap, ap₂, sym, ◌∙◌, subst, arith, drop, length, inl, inr, ◌⊎◌}
+use Rattle.std.proofs.Common.{◌≡◌, ℕ, ◌+◌, ◌≤◌, List, [], ◌∷◌, ◌++◌, true, Option, Some, None, suc, zero, refl, ap, ap₂, sym, ◌∙◌, subst, arith, drop, length, inl, inr, ◌⊎◌}
 use Rattle.std.specs.Prelude.{map, slice_get, option_map}
 use Rattle.std.proofs.lemmas.List.{length-map}
 use Rattle.cap_words.specs.declared.word.Quad.{Quad}
 use Rattle.cap_words.specs.declared.word.Tag.TheVariants.{Actor, Event}
 use Rattle.cap_words.specs.Words.{W, Fix, Rom, Ram, Cap}
-use Rattle.cap_words.specs.Store.{Store, Cell, used, taken, opaque_cell}
-use Rattle.cap_words.specs.Seen.{Seen, Slot, EventSlot, ActorSlot, SponsorSlot, SpentSlot, seen, grown, slot_seen, cell_seen, erase}
+use Rattle.cap_words.specs.Store.{Store, Cell, used, taken}
+use Rattle.cap_words.specs.Seen.{Seen, Slot, SponsorSlot, SpentSlot, seen, grown, slot_seen, cell_seen, erase}
 use Rattle.cap_words.specs.Frame.{Among, Framed}
 use Rattle.cap_words.proofs.Frames.{opaque-framed, among-split, among-left, among-right, framed-taken}
 use Rattle.cap_words.proofs.Erased.{seen-taken}
 use Rattle.quad_memory.specs.Memory.{Memory, with_store}
-use Rattle.instr_table.specs.declared.charge.Charge.{Charge}
 use Rattle.instr_table.specs.Types.{Readable, look_up, opaque_in, shows_sponsor, is_sponsor}
 use Rattle.instr_table.specs.Reach.{Every}
 use Rattle.instr_table.specs.Lists.{next_quad}
 use Rattle.instr_table.specs.Event.{Own, Effects, Effect, Nothing, Sponsors, with_effect}
 use Rattle.instr_table.specs.Sheet.{Account, sheet_after, with_sponsor}
-use Rattle.instr_table.specs.Outcome.{Going, Goes, charge, goes, does}
-use Rattle.instr_table.specs.Lane.{Item, push_all, after_going, gone}
+use Rattle.instr_table.specs.Outcome.{Going, charge, goes, does}
+use Rattle.instr_table.specs.Lane.{Item, push_all, after_going}
 use Rattle.vm_dict.proofs.Taking.{next-used}
 use Rattle.vm_effects.specs.Gathered.{effects_of, IsLinked, own_words}
 use Rattle.vm_effects.proofs.Apart.{used-grown}
@@ -30,7 +29,7 @@ use Rattle.vm_sponsor.proofs.Framed.{Aside as IsAside, sheet-framed, belongs-fra
 use Rattle.vm_step.specs.declared.lane.Lane.{Lane}
 use Rattle.vm_step.specs.declared.lane.StepEnd.{StepEnd}
 use Rattle.vm_step.specs.Stack.{items_from, IsStack}
-use Rattle.vm_step.specs.Flight.{own_at, stack_of, lane_of, lane_words, Held, Aside}
+use Rattle.vm_step.specs.Flight.{own_at, stack_of, Held, Aside}
 use Rattle.vm_step.specs.Books.{Books, held_quads}
 use Rattle.vm_step.specs.Step.{sheet_in, payer, Stays}
 use Rattle.vm_step.specs.Reads.{IsInFlight}

@@ -1,9 +1,9 @@
 -- What each operation on sponsors does.
-use Rattle.std.proofs.Common.{◌≡◌, ℕ, ◌+◌, ◌≤◌, List, [], ◌∷◌, ◌++◌, Option, Some, None, Bool, true, false, if◌then◌else◌, nat_lt, Result, Ok, Err, refl, ap, sym, ◌∙◌, subst, arith, length}
-use Rattle.std.specs.Prelude.{map, OnOk}
+use Rattle.std.proofs.Common.{◌≡◌, ℕ, ◌+◌, ◌≤◌, List, [], ◌∷◌, ◌++◌, Some, None, Bool, true, false, if◌then◌else◌, nat_lt, Result, Ok, Err, refl, ap, sym, ◌∙◌, subst, arith, length}
+use Rattle.std.specs.Prelude.{OnOk}
 use Rattle.cap_words.specs.Words.{W, Cap, undef}
 use Rattle.cap_words.specs.Store.{used, taken}
-use Rattle.cap_words.specs.Seen.{Seen, Slot, SponsorSlot, SpentSlot, EventSlot, seen}
+use Rattle.cap_words.specs.Seen.{Slot, SponsorSlot, SpentSlot, EventSlot, seen}
 use Rattle.cap_words.specs.Frame.{Among}
 use Rattle.quad_memory.specs.Memory.{Memory, with_store}
 use Rattle.quad_memory.specs.declared.cells.EventCell.{EventCell}
@@ -11,16 +11,15 @@ use Rattle.quad_memory.specs.Cells.{event_cells}
 use Rattle.instr_table.specs.declared.charge.Quota.{Quota}
 use Rattle.instr_table.specs.Types.{is_actor, is_sponsor}
 use Rattle.instr_table.specs.Lists.{next_quad, item}
-use Rattle.instr_table.specs.Event.{Effects, Effect, Nothing, Sponsors, Grants, Reclaims, Starts, Stops}
+use Rattle.instr_table.specs.Event.{Effect, Nothing, Sponsors, Grants, Reclaims, Starts, Stops}
 use Rattle.instr_table.specs.Sheet.{Account, Stopped, Running, held, transfer, reclaim, start, stop, runs}
 use Rattle.instr_table.specs.Outcome.{Row, charge, does, goes, faults, not_actor, not_sponsor, is_running}
-use Rattle.instr_table.specs.SponsorRows.{most_sponsors, new_row, grant_of, reclaim_row, start_row, stop_row}
+use Rattle.instr_table.specs.SponsorRows.{most_sponsors, new_row, start_row}
 use Rattle.vm_dict.proofs.Taking.{next-used}
 use Rattle.vm_sponsor.specs.Totals.{sponsors}
 use Rattle.vm_sponsor.specs.Ledger.{Ledger, names}
 use Rattle.vm_sponsor.specs.Sheets.{IsThere, quads_of}
 use Rattle.vm_sponsor.specs.Keeps.{Keeps}
-use Rattle.vm_sponsor.specs.Answers.{start_answer}
 use Rattle.vm_sponsor.proofs.Rows.{sponsors-sheet_of}
 use Rattle.vm_step.specs.declared.lane.Lane.{Lane}
 use Rattle.vm_step.specs.declared.lane.StepEnd.{StepEnd}

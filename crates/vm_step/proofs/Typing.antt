@@ -1,5 +1,5 @@
 -- What the quads under a word say of its type.
-use Rattle.std.proofs.Common.{◌≡◌, ℕ, Option, Some, None, Bool, true, false, if◌then◌else◌, nat_eq, refl, ap, sym, ◌∙◌, ◌||◌}
+use Rattle.std.proofs.Common.{◌≡◌, Option, Some, None, Bool, true, false, if◌then◌else◌, nat_eq, refl, ap, ◌∙◌}
 use Rattle.std.specs.Prelude.{is_some, slice_get, option_map, IsSome}
 use Rattle.std.proofs.lemmas.Option.{slice_get-map}
 use Rattle.cap_words.specs.declared.word.Quad.{Quad}
@@ -7,7 +7,7 @@ use Rattle.cap_words.specs.declared.word.Tag.{Tag}
 use Rattle.cap_words.specs.declared.word.Tag.TheVariants.{Ordinary, Actor, Event, SponsorHeld, SponsorSpent}
 use Rattle.cap_words.specs.Words.{W, Fix, Rom, Ram, Cap, actor_t, sponsor_t, undef}
 use Rattle.cap_words.specs.Store.{Store, Cell, tagged, opaque_cell, spent_cell}
-use Rattle.cap_words.specs.Seen.{Seen, Slot, ActorSlot, UnbornSlot, seen, erase, erase_as, erase_actor, cell_seen, slot_seen}
+use Rattle.cap_words.specs.Seen.{Seen, Slot, ActorSlot, UnbornSlot, seen, erase, erase_as, erase_actor, cell_seen}
 use Rattle.quad_memory.specs.declared.cells.SponsorCell.{SponsorCell}
 use Rattle.quad_memory.proofs.Typed.{some}
 use Rattle.quad_memory.specs.Cells.{actor_at, actor_in, sponsor_at, sponsor_in}

@@ -1,5 +1,5 @@
 -- The event in flight that a lane stands for.
-use Rattle.std.specs.Prelude.{◌≡◌, ℕ, ◌≤◌, List, Some}
+use Rattle.std.specs.Prelude.{◌≡◌, ◌≤◌, List, Some}
 use Rattle.cap_words.specs.declared.word.Quad.{Quad}
 use Rattle.cap_words.specs.declared.word.Tag.TheVariants.{Actor, Event}
 use Rattle.cap_words.specs.Words.{W}
@@ -7,7 +7,7 @@ use Rattle.cap_words.specs.Store.{Store, opaque_cell, used}
 use Rattle.cap_words.specs.Seen.{Seen, EventSlot, ActorSlot, seen, slot_seen}
 use Rattle.cap_words.specs.Frame.{Among}
 use Rattle.instr_table.specs.Event.{Own}
-use Rattle.instr_table.specs.Lane.{Item, values, Lane as Flying}
+use Rattle.instr_table.specs.Lane.{Item, Lane as Flying}
 use Rattle.vm_effects.specs.Gathered.{effects_of, own_words, IsLinked}
 use Rattle.vm_turn.specs.Actors.{sent_at}
 use Rattle.vm_turn.specs.Turn.{own_of}

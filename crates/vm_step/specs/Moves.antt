@@ -1,5 +1,5 @@
 -- What the operations do that change no sponsor.
-use Rattle.std.specs.Prelude.{◌≡◌, ℕ, ◌+◌, ◌≤◌, List, [], ◌∷◌}
+use Rattle.std.specs.Prelude.{◌≡◌, ℕ, ◌+◌, ◌≤◌, List, []}
 use Rattle.cap_words.specs.Words.{W}
 use Rattle.cap_words.specs.Store.{used}
 use Rattle.cap_words.specs.Seen.{Seen, seen}
@@ -9,7 +9,7 @@ use Rattle.instr_table.specs.declared.op.Op.{Op}
 use Rattle.instr_table.specs.Event.{Effect, Nothing, Sends, Creates, Assigns, Becomes, Sponsors, Grants, Reclaims, Starts, Stops, with_effect}
 use Rattle.instr_table.specs.Outcome.{Going, Outcome, Goes, Faults, Commits, Row}
 use Rattle.instr_table.specs.Row.{row}
-use Rattle.instr_table.specs.Lane.{Item, values, after_going}
+use Rattle.instr_table.specs.Lane.{values, after_going}
 use Rattle.vm_effects.specs.Gathered.{effects_of, IsLinked}
 use Rattle.vm_step.specs.declared.lane.Lane.{Lane}
 use Rattle.vm_step.specs.declared.lane.Stack.{Stack}

@@ -2,10 +2,11 @@
 use Rattle.std.specs.Prelude.{◌≡◌, ◌⊎◌, ℕ, suc, pos, ◌+◌, ◌<◌, ◌≤◌, List, [], ◌∷◌, length, map, slice_get, Option, Some, None}
 use Rattle.std.specs.List.{sum_by, count_by}
 use Rattle.cap_words.specs.Words.{W, Fix, Rom, Ram, Cap, same_word}
-use Rattle.cap_words.specs.Seen.{Seen, ActorSlot, UnbornSlot, SponsorSlot, slot_seen}
+use Rattle.cap_words.specs.Seen.{Seen, ActorSlot, UnbornSlot, EventSlot, SponsorSlot, slot_seen}
 use Rattle.cap_words.specs.Frame.{Among}
 use Rattle.instr_table.specs.declared.charge.Quota.{Quota}
 use Rattle.instr_table.specs.declared.charge.Quota.TheVariants.{Memory, Events}
+use Rattle.instr_table.specs.Event.{Sent}
 use Rattle.instr_table.specs.Sheet.{Account, amount, signal_in}
 use Rattle.instr_table.specs.Lane.{Lane}
 use Rattle.instr_table.specs.Reach.{Every}
@@ -134,22 +135,28 @@ pub record Sound (grant : Amounts) (s : State) : Type 0 where
   pub once : (w : W) → places w s ≤ 1
   pub events_taken : (w : W) → 1 ≤ places w s → NamesOne (length s.store.slots) w
 
--- ---- the actors of events in flight, which every turn keeps too
+-- ---- the quads of events in flight, of which every turn keeps this too
 
 -- the words of the actors that an event in flight has created
 abbrev pub created_by : Lane → List W
 created_by l = made_words l.effects.created
 
+-- a message that was sent stands so in the store
+abbrev pub IsSentIn : Seen → Sent → Type 0
+IsSentIn s m = slot_seen s m.event ≡ Some (EventSlot m.sponsor m.target m.content)
+
 -- `busy`: its actor is busy with its message, and has the code and state that it had at the dispatch
 -- `unborn`: no actor that it created is committed
-pub record HasActors (s : Seen) (l : Lane) : Type 0 where
+-- `sent`: each message that it sent stands in the store
+pub record StandsIn (s : Seen) (l : Lane) : Type 0 where
   pub busy : slot_seen s l.own.actor ≡ Some (ActorSlot l.own.code l.own.state (Fix (pos l.number)))
   pub unborn : (w : W) → Among w (created_by l) → slot_seen s w ≡ Some UnbornSlot
+  pub sent : Every (IsSentIn s) l.effects.sent
 
--- `actors`: so it is of each event in flight
+-- `stands`: so it is of each event in flight
 -- `created_once`: no actor is created twice, by one of them or by two
 -- `created_taken`: each that is created is of a quad that is taken
 pub record FlightSound (s : State) : Type 0 where
-  pub actors : Every (HasActors s.store) s.flight
+  pub stands : Every (StandsIn s.store) s.flight
   pub created_once : (w : W) → sum_by (λ (l : Lane). times w (created_by l)) s.flight ≤ 1
   pub created_taken : (w : W) → 1 ≤ sum_by (λ (l : Lane). times w (created_by l)) s.flight → NamesOne (length s.store.slots) w

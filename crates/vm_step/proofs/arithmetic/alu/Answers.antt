@@ -1,4 +1,4 @@
-use Rattle.std.proofs.Common.{◌≡◌, ℤ, ◌∙◌, ap, ap₂}
+use Rattle.std.proofs.Common.{ℤ, ◌∙◌, ap, ap₂}
 use Rattle.cap_words.specs.Words.{Fix}
 use Rattle.cap_words.proofs.Ranges.{in_range-cast}
 use Rattle.instr_table.specs.Arithmetic.{calculated}

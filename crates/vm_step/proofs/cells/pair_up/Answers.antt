@@ -1,7 +1,6 @@
-use Rattle.std.proofs.Common.{◌≡◌, ◌+◌, ◌-◌, suc, List, ap, sym, ◌∙◌, arith, take, length, add-one}
-use Rattle.std.specs.Prelude.{reverse, ℕ}
+use Rattle.std.proofs.Common.{◌+◌, ◌-◌, List, ap, sym, ◌∙◌, arith, take, add-one}
+use Rattle.std.specs.Prelude.{reverse}
 use Rattle.std.proofs.lemmas.List.{length-reverse}
-use Rattle.cap_words.specs.Words.{W}
 use Rattle.cap_words.specs.Seen.{seen}
 use Rattle.instr_table.specs.Lane.{Item, values}
 use Rattle.instr_table.specs.Lists.{item, top_items, linked, pair_quad, next_quad}

@@ -1,4 +1,4 @@
-use Rattle.std.proofs.Common.{sym, ◌∙◌, arith, length}
+use Rattle.std.proofs.Common.{sym, ◌∙◌, arith}
 use Rattle.instr_table.specs.Lists.{fields_in}
 use Rattle.instr_table.proofs.Charges.{length-fields}
 use Rattle.vm_step.proofs.Making.{fields-item}

@@ -1,12 +1,9 @@
 use Rattle.std.proofs.Common.{◌≡◌, None, Some, refl, ap, sym, ◌∙◌, subst}
-use Rattle.cap_words.specs.Seen.{seen}
 use Rattle.instr_table.specs.declared.charge.Charge.{Charge}
 use Rattle.instr_table.specs.Event.{Own}
 use Rattle.instr_table.specs.Outcome.{Row, Faults, bad_instruction, charge, faults}
 use Rattle.instr_table.specs.Sheet.{account, short}
-use Rattle.vm_step.specs.declared.lane.StepEnd.{StepEnd}
 use Rattle.vm_step.specs.declared.lane.StepEnd.TheVariants.{Abort}
-use Rattle.cap_words.specs.Words.{W}
 use Rattle.vm_step.specs.Step.{sheet_in, payer, ActsBy}
 use Rattle.vm_step.specs.Paid.{Paid, Acts, paid_row_in, unpaid_row_in}
 use Rattle.vm_step.proofs.Going.{Pays, acts-after, stays-after, stays-refl}

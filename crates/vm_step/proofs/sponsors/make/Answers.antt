@@ -1,4 +1,4 @@
-use Rattle.std.proofs.Common.{◌≡◌, ◌∙◌, [], ◌∷◌, true, false, length, nat_lt, sym}
+use Rattle.std.proofs.Common.{◌∙◌, [], ◌∷◌, true, length, nat_lt, sym}
 use Rattle.cap_words.specs.Words.{Cap}
 use Rattle.cap_words.specs.Store.{used}
 use Rattle.cap_words.specs.Seen.{SponsorSlot, SpentSlot, seen}

@@ -1,6 +1,6 @@
 use Rattle.std.proofs.Common.{◌≡◌, ◌∙◌, [], ◌∷◌, ap, sym, arith}
 use Rattle.cap_words.specs.Words.{Cap, undef, nil}
-use Rattle.cap_words.specs.Seen.{EventSlot, seen}
+use Rattle.cap_words.specs.Seen.{EventSlot}
 use Rattle.quad_memory.specs.declared.cells.EventCell.{EventCell}
 use Rattle.instr_table.specs.Event.{Starts}
 use Rattle.instr_table.specs.Sheet.{start, runs}

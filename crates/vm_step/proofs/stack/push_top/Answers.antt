@@ -1,7 +1,6 @@
-use Rattle.std.proofs.Common.{◌≡◌, ◌-◌, ◌≤◌, ◌<◌, List, ap, sym, ◌∙◌, arith, length, take}
+use Rattle.std.proofs.Common.{◌-◌, List, ap, sym, ◌∙◌, arith, take}
 use Rattle.std.specs.Prelude.{reverse}
 use Rattle.std.proofs.lemmas.List.{length-reverse}
-use Rattle.cap_words.specs.Words.{W}
 use Rattle.cap_words.specs.Seen.{seen}
 use Rattle.instr_table.specs.Lane.{Item, values}
 use Rattle.instr_table.specs.Lists.{item, top_items}

@@ -1,4 +1,4 @@
-use Rattle.std.proofs.Common.{refl, add-one, sym}
+use Rattle.std.proofs.Common.{refl, add-one}
 use Rattle.vm_step.proofs.Moving.{moves-push}
 use Rattle.vm_step.proofs.lane.Lane.push.Goals as goal
 

@@ -1,0 +1,37 @@
+-- The tokens of a printed tree are those of its text, and spell it.
+use Rattle.std.proofs.Common.{◌≡◌, ◌≤◌, ◌<◌, List, [], ◌∷◌, length, sym, ap, ◌∙◌, subst, arith}
+use Rattle.hum_syntax.specs.declared.Token.{Token}
+use Rattle.hum_syntax.specs.declared.Tree.{Tree}
+use Rattle.hum_syntax.specs.declared.Stmt.{Stmt}
+use Rattle.hum_syntax.specs.declared.TokenKind.{TokenKind}
+use Rattle.hum_syntax.specs.declared.TokenKind.TheVariants as k
+use Rattle.hum_syntax.specs.Forms.{Bytes}
+use Rattle.hum_syntax.specs.Laws.{IsTextOf}
+use Rattle.hum_syntax.specs.Lexes.{IsTokens}
+use Rattle.hum_syntax.specs.Prints.{printed, levels}
+use Rattle.hum_syntax.specs.Spells.{Spells, IsStmts, deepest, kinds}
+use Rattle.hum_syntax.specs.Tokens.{all_placed, kinds_of, weight, weight_of, weight_of_kinds, weight_limit}
+use Rattle.hum_syntax.proofs.SizedTrees.{weight-kinds, kinds_of-placed}
+
+pub text_tokens : (bytes : Bytes) (xs : List Stmt) (t : IsTextOf bytes xs) → weight_of_kinds (printed xs) ≤ weight_limit → IsTokens bytes t.tokens
+text_tokens bytes xs t light = record {
+  lexes = t.lexes;
+  light = subst (λ n. n ≤ weight_limit) (sym (weight-kinds t.tokens ∙ ap weight_of_kinds t.kinds)) light;
+}
+
+pub text_spells : (bytes : Bytes) (tree : Tree) (t : IsTextOf bytes tree.statements) → levels tree.statements ≤ deepest
+    → (ts : List Token) → all_placed ts ≡ t.tokens → Spells (kinds ts) tree
+text_spells bytes tree t shallow ts same =
+    subst (λ ks. IsStmts deepest ks tree.statements) (sym (sym (kinds_of-placed ts) ∙ ap kinds_of same ∙ t.kinds)) (t.spell deepest shallow)
+
+some_weight : (kind : TokenKind) → 0 < weight_of kind
+some_weight (k.Symbol run) = omega arith
+some_weight (k.Text cs) = omega arith
+some_weight _ = omega arith
+
+pub few_tokens : (ts : List Token) → length ts ≤ weight (all_placed ts)
+few_tokens [] = omega arith
+few_tokens (t ∷ ts) =
+    let one : 0 < weight_of t.kind = some_weight t.kind in
+    let more : length ts ≤ weight (all_placed ts) = few_tokens ts in
+    omega arith

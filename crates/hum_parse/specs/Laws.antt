@@ -1,0 +1,13 @@
+-- What is so of the trees that tokens spell, and of the places of refusals.
+use Rattle.std.specs.Prelude.{◌≡◌, ℕ}
+use Rattle.hum_syntax.specs.declared.Tree.{Tree}
+use Rattle.hum_syntax.specs.Spells.{Kinds, IsStmts, Spells, deepest}
+use Rattle.hum_parse.specs.Begins.{RefusedAt}
+
+-- tokens spell one tree at most
+abbrev pub OneTree : Type 0
+OneTree = (ks : Kinds) (a b : Tree) → Spells ks a → Spells ks b → a ≡ b
+
+-- and are refused at one place at most
+abbrev pub OnePlace : Type 0
+OnePlace = (ks : Kinds) (m n : ℕ) → RefusedAt (IsStmts deepest) ks m → RefusedAt (IsStmts deepest) ks n → m ≡ n

@@ -1,0 +1,13 @@
+//! What is so of the trees that tokens spell, and of the places of refusals.
+
+ghost use Rattle.hum_parse.specs.Laws.{OneTree, OnePlace};
+
+/// Tokens spell one tree at most.
+pub fn tokens_spell_one_tree()
+    ensures { OneTree }
+{}
+
+/// Tokens are refused at one place at most.
+pub fn tokens_are_refused_at_one_place()
+    ensures { OnePlace }
+{}

@@ -1,0 +1,18 @@
+//! Reads the tree that tokens spell: `parse` gives it, or the first place at which the tokens can no longer begin one.
+#![tactic(auto)]
+
+mod expressions;
+mod grammar;
+mod laws;
+mod patterns;
+mod round_trip;
+mod statements;
+mod terms;
+#[cfg(test)]
+mod tests;
+mod tokens;
+mod whole;
+
+pub use laws::{tokens_are_refused_at_one_place, tokens_spell_one_tree};
+pub use round_trip::read_back;
+pub use whole::{ParseError, parse};

@@ -1,0 +1,13 @@
+pub mod Folding
+pub mod FormedTrees
+pub mod NamedTrees
+pub mod SizedTrees
+pub mod Written
+pub mod Chains
+pub mod Induction
+pub mod PrintedTrees
+pub mod Decimals
+pub mod LexedTexts
+pub mod WritableTrees
+pub mod MoreLevels
+pub mod Texts

@@ -1,0 +1,15 @@
+-- What is printed is the text of its tree.
+use Rattle.std.proofs.Common.{◌≡◌, true, List}
+use Rattle.hum_syntax.specs.declared.tree.Stmt.{Stmt}
+use Rattle.hum_syntax.specs.Formed.{are_formed}
+use Rattle.hum_syntax.specs.Writes.{text_of}
+use Rattle.hum_syntax.specs.Prints.{printed}
+use Rattle.hum_syntax.specs.Laws.{IsTextOf}
+use Rattle.hum_syntax.proofs.LexedTexts.{text_lexed}
+use Rattle.hum_syntax.proofs.PrintedTrees.{printed_spelled}
+use Rattle.hum_syntax.proofs.WritableTrees.{printed_writes}
+
+pub text_of_tree : (xs : List Stmt) → are_formed xs ≡ true → IsTextOf (text_of (printed xs)) xs
+text_of_tree xs h =
+    let is = text_lexed (printed xs) (printed_writes xs h) in
+    record { tokens = is.0; lexes = is.1; kinds = is.2; spell = λ n below. printed_spelled n xs h below }

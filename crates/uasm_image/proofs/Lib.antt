@@ -1,0 +1,13 @@
+pub mod Joined
+pub mod Cells
+pub mod Exact
+pub mod Steps
+pub mod Whole
+pub mod Again
+pub mod Fills
+pub mod Stops
+pub mod Hits
+pub mod Faults
+pub mod Parts
+pub mod Once
+pub mod Told

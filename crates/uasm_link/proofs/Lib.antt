@@ -1,0 +1,4 @@
+mod Twice
+mod Steps
+mod Bounds
+mod Images

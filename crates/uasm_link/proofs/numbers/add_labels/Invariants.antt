@@ -1,0 +1,12 @@
+use Rattle.std.proofs.Common.{◌≡◌, length}
+use Rattle.std.specs.Option.{option_or}
+use Rattle.std.specs.Prelude.{Some, None, if◌then◌else◌}
+use Rattle.uasm_read.specs.Texts.{Name, has_name}
+use Rattle.uasm_link.specs.Numbering.{number_in}
+use Rattle.uasm_link.proofs.numbers.add_labels.Given as goal
+
+abbrev pub invariant-loop-rest : goal.invariant-loop-rest
+invariant-loop-rest l = (name : Name) → option_or (number_in l.numbers name) (if has_name l.rest name then Some l.number else None) ≡ option_or (number_in l.fn.numbers name) (if has_name l.labels name then Some l.number else None)
+
+abbrev pub decreases-loop-rest : goal.decreases-loop-rest
+decreases-loop-rest l = length l.rest

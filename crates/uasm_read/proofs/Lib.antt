@@ -1,0 +1,11 @@
+pub mod Fronts
+pub mod Sound
+mod Computing
+mod Rows
+mod Numbers
+mod Parts
+mod NameForms
+mod Searches
+mod Formed
+pub mod Fits
+mod Spelled

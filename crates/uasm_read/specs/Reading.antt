@@ -1,0 +1,45 @@
+-- What the parts of the reader answer.
+use Rattle.std.specs.Prelude.{ℕ, ◌+◌, Bool, not, if◌then◌else◌, nat_le, List, [], ◌∷◌, Option, Some, None}
+use Rattle.std.specs.Borrow.{Bor}
+use Rattle.std.specs.HashSet.{HashSet, contains_by}
+use Rattle.std.specs.Str.{bytes_eq}
+use Rattle.uasm_read.specs.declared.line.Line.{Line}
+use Rattle.uasm_read.specs.declared.faults.Which.{Which}
+use Rattle.uasm_read.specs.declared.faults.Which.TheVariants as which
+use Rattle.uasm_read.specs.declared.build.Directive.{Directive}
+use Rattle.uasm_read.specs.declared.build.Directive.TheVariants as directive
+use Rattle.uasm_read.specs.Faults.{label_of, import_of, export_of, defined_by, is_no_end}
+use Rattle.uasm_read.specs.declared.texts.Class.{Class}
+use Rattle.uasm_read.specs.declared.texts.Class.TheVariants as class
+use Rattle.uasm_read.specs.Texts.{Bytes, Name, is_blank, is_semicolon, is_line_feed}
+
+abbrev pub is_in : Class → ℕ → Bool
+is_in class.Blank b = is_blank b
+is_in class.Part b = not (is_blank b)
+is_in class.Code b = not (is_semicolon b)
+is_in class.Line b = not (is_line_feed b)
+
+-- a number, if it is at most 2 to the 30
+abbrev pub up_to_limit : ℕ → Option ℕ
+up_to_limit n = if nat_le n 1073741824 then Some n else None
+
+-- ---- sets of names
+
+-- the set has the name
+abbrev pub holds : {S : Type 0} → HashSet (Bor Bytes) S → Name → Bool
+holds names name = contains_by (λ key. bytes_eq name key.now) names
+
+-- the names of a line that are looked for
+abbrev pub names_by : Which → Line → List Name
+names_by which.Labels line = label_of line
+names_by which.Defined line = defined_by line
+
+-- the names of a directive
+abbrev pub directed_by : Directive → Line → List Name
+directed_by directive.Imports line = import_of line
+directed_by directive.Exports line = export_of line
+
+-- how many lines are no end of the text
+abbrev pub no_ends : List Line → ℕ
+no_ends [] = 0
+no_ends (line ∷ lines) = (if is_no_end line then 1 else 0) + no_ends lines

@@ -1,0 +1,59 @@
+//! Why a text is no module.
+
+use std::alloc::{AllocError, AllocFailed};
+
+/// What is wrong with a line.
+#[derive(Clone, Copy, Debug, PartialEq, Eq)]
+pub enum UasmCause {
+    /// The text has more than 1,048,576 bytes. Told at line 1.
+    TooLong,
+    /// The line has a byte that is not ASCII, or no form: its first part is neither a name nor the front of a form, it is a directive or a
+    /// label that something else stands behind, a label that no item follows, or a `ref` that no instruction stands before.
+    BadLine,
+    /// The first part is a name, but of no operation.
+    NoOperation,
+    /// What stands behind an operation, `ref`, `pair_t` or `cell` is missing, too much, not in its form or out of range.
+    BadOperand,
+    /// The name of this label or import stands before as another one's.
+    Twice,
+    /// The line names what is neither label nor import, or exports what is no label.
+    Unknown,
+    /// An instruction goes on at no instruction.
+    FallsOff,
+}
+
+/// The line that is refused, counted from 1, and the cause.
+#[derive(Clone, Copy, Debug, PartialEq, Eq)]
+pub struct UasmRefused {
+    pub line: u32,
+    pub cause: UasmCause,
+}
+
+/// Why there is no module.
+#[derive(Clone, Copy, Debug, PartialEq, Eq)]
+pub enum ReadModuleError {
+    NoMemory,
+    Refused(UasmRefused),
+}
+
+impl From<AllocError> for ReadModuleError {
+    ghost use Rattle.std.specs.Prelude.{◌≡◌};
+    ghost use Rattle.uasm_read.specs.declared.error.ReadModuleError.TheVariants.{NoMemory};
+
+    ghost from_gives = { λ _ e. e ≡ NoMemory };
+
+    fn from(_: AllocError) -> ReadModuleError {
+        ReadModuleError::NoMemory
+    }
+}
+
+impl<T: Drop> From<AllocFailed<T>> for ReadModuleError {
+    ghost use Rattle.std.specs.Prelude.{◌≡◌};
+    ghost use Rattle.uasm_read.specs.declared.error.ReadModuleError.TheVariants.{NoMemory};
+
+    ghost from_gives = { λ _ e. e ≡ NoMemory };
+
+    fn from(_: AllocFailed<T>) -> ReadModuleError {
+        ReadModuleError::NoMemory
+    }
+}
