@@ -268,7 +268,7 @@ module _ (p : Parts) (whole : Whole p) (place : ℕ) (lane m : Lane) (at : slice
       some g = cc
 
 -- a cycle is spent for each three transfers, and a grant has few cycles
-few-cycles : (memory events cycles : ℕ) → IsTrue (is_grant memory events cycles) → cycles ≤ 1073741823
+pub few-cycles : (memory events cycles : ℕ) → IsTrue (is_grant memory events cycles) → cycles ≤ 1073741823
 few-cycles memory events cycles h = grind (arith, nat_tests)
 
 pub few-transfers : (p : Parts) → Whole p → p.sheet.transfers < 2 ^ 32

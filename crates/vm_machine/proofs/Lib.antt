@@ -22,3 +22,6 @@ mod Booting
 mod Delivering
 mod Turning
 mod Waiting
+mod Unwritten
+mod Continued
+mod Counting

@@ -11,13 +11,13 @@ use Rattle.event_queue.specs.Pending.{IsAscending, numbers_from, event_of, witho
 use Rattle.event_queue.specs.Waiting.{message_of, messages_of, waiting}
 use Rattle.vm_machine.specs.Messages.{is_among, is_unfinished, kept_from, unfinished}
 
-differ : (n k : ℕ) → nat_eq n k ≡ false → n ≡ k → ⊥
+pub differ : (n k : ℕ) → nat_eq n k ≡ false → n ≡ k → ⊥
 differ n k h e = grind (arith, nat_tests)
 
-same : (n k : ℕ) → nat_eq n k ≡ true → n ≡ k
+pub same : (n k : ℕ) → nat_eq n k ≡ true → n ≡ k
 same n k h = grind (arith, nat_tests)
 
-other : (n k : ℕ) → (n ≡ k → ⊥) → nat_eq n k ≡ false
+pub other : (n k : ℕ) → (n ≡ k → ⊥) → nat_eq n k ≡ false
 other n k h = grind (arith, nat_tests)
 
 itself : (n : ℕ) → nat_eq n n ≡ true

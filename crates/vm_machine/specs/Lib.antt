@@ -5,3 +5,4 @@ pub mod Whole
 pub mod Steps
 pub mod Turns
 pub mod Deliveries
+pub mod Machine

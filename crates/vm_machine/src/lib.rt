@@ -8,10 +8,17 @@
 mod boot;
 mod exhausted;
 mod finish;
+mod machine;
 mod parts;
+mod picked;
 mod ready;
 mod roll;
 mod start;
 mod turn;
 
+pub use machine::{Lanes, Machine};
+pub use picked::Core;
 pub use std::alloc::AllocError as NoMemory;
+
+#[cfg(test)]
+mod tests;
