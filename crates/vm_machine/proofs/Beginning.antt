@@ -1,14 +1,14 @@
 -- A machine after an event began.
-use Rattle.std.proofs.Common.{◌≡◌, ◌⊎◌, inl, inr, ℕ, zero, suc, ◌+◌, ◌<◌, ◌≤◌, nat_eq, List, [], ◌∷◌, ◌++◌, length, get_or, Option, Some, None, Bool, true, false, if◌then◌else◌, ap, ap₂, refl, sym, ◌∙◌, subst, arith, ℤ, pos, vec_len}
-use Rattle.std.specs.Prelude.{map, slice_get, option_map, ◌&&◌, vec_capacity, IsTrue}
+use Rattle.std.proofs.Common.{◌≡◌, inl, inr, ℕ, zero, suc, ◌+◌, ◌<◌, ◌≤◌, nat_eq, List, [], ◌∷◌, ◌++◌, length, get_or, Option, Some, None, Bool, true, false, if◌then◌else◌, ap, ap₂, refl, sym, ◌∙◌, subst, arith, ℤ, pos, vec_len}
+use Rattle.std.specs.Prelude.{slice_get, option_map, ◌&&◌, vec_capacity, IsTrue}
 use Rattle.std.specs.Global.{Vec}
-use Rattle.std.specs.List.{Contains, sum_by}
+use Rattle.std.specs.List.{Contains}
 use Rattle.std.proofs.lemmas.Bool.Decides.{nat_tests}
 use Rattle.std.proofs.lemmas.List.{map-append}
 use Rattle.std.proofs.lemmas.List.Sums.{sum_by-append}
 use Rattle.std.proofs.lemmas.Option.{slice_get_within}
-use Rattle.cap_words.specs.Words.{W, Fix, Rom, Ram, Cap, undef, nil, same_word}
-use Rattle.cap_words.specs.Store.{Store, used, cap_place}
+use Rattle.cap_words.specs.Words.{W, Fix, undef, nil}
+use Rattle.cap_words.specs.Store.{Store, cap_place}
 use Rattle.cap_words.specs.Seen.{Seen, Slot, OpenSlot, ActorSlot, UnbornSlot, EventSlot, SponsorSlot, SpentSlot, seen, slot_seen, altered}
 use Rattle.cap_words.specs.Frame.{Among, Framed}
 use Rattle.cap_words.proofs.Same.{word_same}
@@ -25,32 +25,29 @@ use Rattle.quad_memory.specs.declared.cells.SponsorCell.{SponsorCell}
 use Rattle.quad_memory.specs.Memory.{Memory, with_store}
 use Rattle.quad_memory.specs.Cells.{sponsor_at, event_at, event_in, actor_at, actor_in, actor_words}
 use Rattle.quad_memory.proofs.Typed.{at-quad}
-use Rattle.instr_table.specs.Event.{Own, Sent, Behaviour, Effects, no_effects}
+use Rattle.instr_table.specs.Event.{Own, Behaviour, Effects, no_effects}
 use Rattle.instr_table.specs.Lane.{Lane as Flying, begun}
 use Rattle.instr_table.specs.Reach.{Every}
 use Rattle.vm_sponsor.specs.Grant.{is_grant}
-use Rattle.vm_sponsor.specs.Ledger.{Ledger, names}
+use Rattle.vm_sponsor.specs.Ledger.{names}
 use Rattle.vm_effects.specs.Gathered.{effects_of, own_words, IsLinked}
 use Rattle.vm_effects.proofs.Records.{slot-framed}
-use Rattle.vm_turn.specs.State.{State, Message}
 use Rattle.vm_turn.specs.Actors.{sent_in, sent_at, is_idle_in, is_idle, behaviour_in, behaviour_at, at_actor, remade, busy}
 use Rattle.vm_turn.specs.Turn.{begin, own_of}
-use Rattle.event_queue.specs.Pending.{Pending, event_of, IsAscending, without}
+use Rattle.event_queue.specs.Pending.{Pending, IsAscending, without}
 use Rattle.event_queue.specs.Starts.{can_start, runs_by}
 use Rattle.vm_step.specs.declared.lane.Lane.{Lane}
-use Rattle.vm_step.specs.Flight.{own_at, lane_of, lane_words, Held}
-use Rattle.vm_step.specs.Step.{sheet_in}
+use Rattle.vm_step.specs.Flight.{own_at, lane_of}
 use Rattle.vm_machine.specs.declared.parts.Parts.{Parts}
 use Rattle.vm_machine.specs.Messages.{is_among, unfinished}
 use Rattle.vm_machine.specs.Flight.{flight_of, Flies, Separate, Pairwise}
 use Rattle.vm_machine.specs.View.{state_of}
 use Rattle.vm_machine.specs.Whole.{Kept, cycles_spent, created_in}
-use Rattle.vm_machine.proofs.Lists.{every-more, every-both, every-at, every-end, pairs-end}
+use Rattle.vm_machine.proofs.Lists.{every-more, every-both, every-end, pairs-end}
 use Rattle.vm_machine.proofs.Messages.{unfinished-begun, without-among, without-gone}
 use Rattle.vm_machine.proofs.Standing.{ascending-without}
 use Rattle.vm_machine.proofs.Still.{Flown, separate-turned}
 use Rattle.vm_machine.proofs.Left.{actor-flown, event-other, Stayed, stayed}
-use Rattle.vm_machine.proofs.Keeping.{Quiet}
 use Rattle.vm_machine.proofs.Ended.{slot-at, ActorChanged, actor-changed}
 use Rattle.vm_machine.proofs.Searching.{cell-sponsor}
 
@@ -123,11 +120,10 @@ pub actor-marked : (m n : Memory) (w code state : W) (cell : ActorCell) (mark : 
     → (seen n.store ≡ altered (seen m.store) (cap_place w) (ActorSlot code state (Fix z))) × Framed m.store n.store (w ∷ []) × (n.room ≡ m.room) × (cell.code ≡ code)
 actor-marked m n w code state cell mark z there at is e =
     let q = actor-there m.store w code state undef there in
-    let same : cell ≡ record { code = code; state = state; mark = undef } = some (sym at ∙ ap (option_map actor_in) q.1) in
-    (
+    let same : cell ≡ record { code = code; state = state; mark = undef } = some (sym at ∙ ap (option_map actor_in) q.1) in (
       ap (λ (x : Memory). seen x.store) e ∙ seen-changed m.store (cap_place w) (cell_as Actor (actor_words (record cell { mark = mark })))
-      ∙ ap (λ (x : W). altered (seen m.store) (cap_place w) (erase_actor cell.code cell.state x)) is
-      ∙ ap (λ (x : ActorCell). altered (seen m.store) (cap_place w) (ActorSlot x.code x.state (Fix z))) same,
+          ∙ ap (λ (x : W). altered (seen m.store) (cap_place w) (erase_actor cell.code cell.state x)) is
+          ∙ ap (λ (x : ActorCell). altered (seen m.store) (cap_place w) (ActorSlot x.code x.state (Fix z))) same,
       subst (λ (x : Memory). Framed m.store x.store (w ∷ [])) (sym e) (framed-changed m.store (cap_place w) (cell_as Actor (actor_words (record cell { mark = mark }))) (w ∷ []) (inl (sym (named m.store Actor w _ q.1).place_is))),
       ap (λ (x : Memory). x.room) e,
       ap (λ (x : ActorCell). x.code) same,
@@ -172,11 +168,11 @@ length-without low high (m ∷ ms) n a h = by (nat_eq m n) refl h (λ g. length-
     by false e g later = let k = later g in omega (arith, k)
 
 module _ (p : Parts) (k : Kept p) (number : ℕ) (event : W) (free : length p.flight.items < p.lanes) (ready : Contains p.queue.ready number) (given : slice_get p.queue.given number ≡ Some event) (can : Startable p.quads.store event)
-         (after : Memory) (queue : Pending) (flight : Vec Lane) (effects : _)
-         (none : (s : Store) → effects_of s effects ≡ no_effects) (linked : (s : Store) → IsLinked s effects)
-         (frame : Framed p.quads.store after.store (can.target ∷ [])) (seen_is : seen after.store ≡ altered (seen p.quads.store) (cap_place can.target) (ActorSlot can.code can.state (Fix (pos number)))) (room : after.room ≡ p.quads.room)
-         (queue_is : queue ≡ record p.queue { ready = without number p.queue.ready })
-         (items : flight.items ≡ p.flight.items ++ record { number = number; event = event; code = can.code; stack = nil; depth = 0; effects = effects } ∷ []) (len : vec_len flight ≡ vec_len p.flight + 1) (capacity : vec_capacity p.flight ≤ vec_capacity flight) where
+    (after : Memory) (queue : Pending) (flight : Vec Lane) (effects : _)
+    (none : (s : Store) → effects_of s effects ≡ no_effects) (linked : (s : Store) → IsLinked s effects)
+    (frame : Framed p.quads.store after.store (can.target ∷ [])) (seen_is : seen after.store ≡ altered (seen p.quads.store) (cap_place can.target) (ActorSlot can.code can.state (Fix (pos number)))) (room : after.room ≡ p.quads.room)
+    (queue_is : queue ≡ record p.queue { ready = without number p.queue.ready })
+    (items : flight.items ≡ p.flight.items ++ record { number = number; event = event; code = can.code; stack = nil; depth = 0; effects = effects } ∷ []) (len : vec_len flight ≡ vec_len p.flight + 1) (capacity : vec_capacity p.flight ≤ vec_capacity flight) where
   abbrev s : Store
   s = p.quads.store
 
@@ -274,8 +270,8 @@ module _ (p : Parts) (k : Kept p) (number : ℕ) (event : W) (free : length p.fl
     transfers = (let c = ap cycles_spent busied.quiet.sheet_is in omega (arith, c, k.transfers));
     flying = subst (λ (q : Pending). Every (Flies t sponsors q.given q.ready) flight.items) (sym queue_is)
         (subst (λ (ls : List Lane). Every (Flies t sponsors p.queue.given (without number p.queue.ready)) ls) (sym items)
-          (every-end (Flies t sponsors p.queue.given (without number p.queue.ready)) p.flight.items lane
-            (every-both (Flies s sponsors p.queue.given p.queue.ready) (Flies t sponsors p.queue.given p.queue.ready) (Flies t sponsors p.queue.given (without number p.queue.ready)) p.flight.items (λ l b h. fewer_ready l b h) k.flying rest.flying) flies));
+        (every-end (Flies t sponsors p.queue.given (without number p.queue.ready)) p.flight.items lane
+        (every-both (Flies s sponsors p.queue.given p.queue.ready) (Flies t sponsors p.queue.given p.queue.ready) (Flies t sponsors p.queue.given (without number p.queue.ready)) p.flight.items (λ l b h. fewer_ready l b h) k.flying rest.flying) flies));
     apart = subst (λ (ls : List Lane). Pairwise (Separate t) ls) (sym items)
         (pairs-end (Separate t) p.flight.items lane (separate-turned t) rest.apart (every-more (Flies s sponsors p.queue.given p.queue.ready) (Separate t lane) p.flight.items (λ l h. new_apart l h) k.flying));
     granted = k.granted;
@@ -285,16 +281,16 @@ module _ (p : Parts) (k : Kept p) (number : ℕ) (event : W) (free : length p.fl
     flight_room = omega (arith, k.flight_room, capacity);
     queue_room = ap (λ (q : Pending). q.room) queue_is ∙ k.queue_room;
     counts = (
-      let g : length queue.given ≡ length p.queue.given = ap (λ (q : Pending). length q.given) queue_is in
-      let r : length queue.ready + 1 ≡ length p.queue.ready = ap (λ (q : Pending). length q.ready + 1) queue_is ∙ length-without 0 (length p.queue.given) p.queue.ready number k.ascending among in
-      omega (arith, k.counts, len, g, r));
+        let g : length queue.given ≡ length p.queue.given = ap (λ (q : Pending). length q.given) queue_is in
+        let r : length queue.ready + 1 ≡ length p.queue.ready = ap (λ (q : Pending). length q.ready + 1) queue_is ∙ length-without 0 (length p.queue.given) p.queue.ready number k.ascending among in
+        omega (arith, k.counts, len, g, r));
     given_room = (let g : length queue.given ≡ length p.queue.given = ap (λ (q : Pending). length q.given) queue_is in let r : queue.room ≡ p.queue.room = ap (λ (q : Pending). q.room) queue_is in omega (arith, k.given_room, g, r));
     ascending = subst (λ (q : Pending). IsAscending 0 (length q.given) q.ready) (sym queue_is) (ascending-without number 0 (length p.queue.given) p.queue.ready k.ascending);
     journal_room = (let r : queue.room ≡ p.queue.room = ap (λ (q : Pending). q.room) queue_is in omega (arith, k.journal_room, r));
     actors = (
-      let c = ap created_in flight_is in
-      let a = sum_by-append (λ (l : Flying). length l.effects.created) (flight_of s p.flight.items) (begun number own ∷ []) in
-      omega (arith, c, a, k.actors, busied.used_is));
+        let c = ap created_in flight_is in
+        let a = sum_by-append (λ (l : Flying). length l.effects.created) (flight_of s p.flight.items) (begun number own ∷ []) in
+        omega (arith, c, a, k.actors, busied.used_is));
     used_room = omega (arith, k.used_room, busied.used_is, room);
     roll_room = omega (arith, k.roll_room, room);
   }
@@ -303,12 +299,12 @@ module _ (p : Parts) (k : Kept p) (number : ℕ) (event : W) (free : length p.fl
   state-begun =
       let target : (sent_at (seen s) event).target ≡ can.target = ap (λ (o : Option Slot). (sent_in event o).target) can.event in
       let st : seen t ≡ at_actor (seen s) (sent_at (seen s) event).target (busy number) =
-        seen_is ∙ sym (ap (λ (o : Option Slot). remade o (busy number) can.target (seen s)) can.actor) ∙ ap (λ (w : W). at_actor (seen s) w (busy number)) (sym target) in
+      seen_is ∙ sym (ap (λ (o : Option Slot). remade o (busy number) can.target (seen s)) can.actor) ∙ ap (λ (w : W). at_actor (seen s) w (busy number)) (sym target) in
       let fl : flight_of t flight.items ≡ flight_of s p.flight.items ++ begun number (own_of (seen s) (sent_at (seen s) event)) ∷ [] = flight_is ∙ ap (λ (o : Own). flight_of s p.flight.items ++ begun number o ∷ []) (sym own_old) in
       let me : unfinished queue.given queue.ready (flight_of t flight.items) ≡ unfinished p.queue.given p.queue.ready (flight_of s p.flight.items) =
-        ap (λ (q : Pending). unfinished q.given q.ready (flight_of t flight.items)) queue_is
-        ∙ ap (λ (ls : List Flying). unfinished p.queue.given (without number p.queue.ready) ls) flight_is
-        ∙ unfinished-begun p.queue.given p.queue.ready (flight_of s p.flight.items) (begun number own) among in
+      ap (λ (q : Pending). unfinished q.given q.ready (flight_of t flight.items)) queue_is
+      ∙ ap (λ (ls : List Flying). unfinished p.queue.given (without number p.queue.ready) ls) flight_is
+      ∙ unfinished-begun p.queue.given p.queue.ready (flight_of s p.flight.items) (begun number own) among in
       let nu : length queue.given ≡ length p.queue.given = ap (λ (q : Pending). length q.given) queue_is in
       let sh = busied.quiet.sheet_is in
       λ j. record (state_of p) { store = st j; flight = fl j; messages = me j; next_number = nu j; sheet = sh j }

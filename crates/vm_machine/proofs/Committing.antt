@@ -1,16 +1,15 @@
 -- A machine after an event ended with its effects.
-use Rattle.std.proofs.Common.{◌≡◌, ◌⊎◌, inl, inr, ℕ, zero, suc, ◌+◌, ◌<◌, ◌≤◌, nat_eq, List, [], ◌∷◌, ◌++◌, length, get_or, Option, Some, None, Bool, true, false, if◌then◌else◌, ap, ap₂, refl, sym, ◌∙◌, subst, arith, pos, vec_len, length-append}
+use Rattle.std.proofs.Common.{◌≡◌, inl, inr, ℕ, suc, ◌+◌, ◌≤◌, nat_eq, List, [], ◌∷◌, ◌++◌, length, get_or, Option, Some, None, Bool, true, false, if◌then◌else◌, ap, ap₂, refl, sym, ◌∙◌, subst, arith, pos, vec_len, length-append}
 use Rattle.std.specs.Prelude.{map, remove, slice_get, vec_capacity, ◌||◌}
 use Rattle.std.specs.Global.{Vec}
-use Rattle.std.specs.List.{sum_by}
 use Rattle.std.proofs.lemmas.List.{length-map}
 use Rattle.std.proofs.lemmas.List.Sums.{sum_by-remove}
 use Rattle.std.proofs.lemmas.Option.{slice_get_within, get_or_from_slice_get}
 use Rattle.cap_words.specs.declared.word.Quad.{Quad}
-use Rattle.cap_words.specs.declared.word.Tag.TheVariants.{Actor, Event, SponsorHeld, SponsorSpent}
+use Rattle.cap_words.specs.declared.word.Tag.TheVariants.{Actor, Event}
 use Rattle.cap_words.specs.Words.{W, Fix, Rom, Ram, Cap, undef}
 use Rattle.cap_words.specs.Store.{Store, opaque_cell, used, cap_place}
-use Rattle.cap_words.specs.Seen.{Seen, Slot, ActorSlot, UnbornSlot, EventSlot, seen, slot_seen, altered, erase_as, erase_actor}
+use Rattle.cap_words.specs.Seen.{Seen, Slot, ActorSlot, UnbornSlot, seen, altered, erase_as, erase_actor}
 use Rattle.cap_words.specs.Frame.{Among, Framed}
 use Rattle.cap_words.proofs.Places.{get-left}
 use Rattle.cap_words.proofs.Frames.{among-right}
@@ -18,13 +17,12 @@ use Rattle.cap_words.proofs.Stores.{opaque_twice}
 use Rattle.cap_words.proofs.Erased.{slot-seen, event-there}
 use Rattle.quad_memory.specs.Memory.{Memory}
 use Rattle.instr_table.specs.Event.{Own, Made, Sent, Behaviour}
-use Rattle.instr_table.specs.Types.{Shown, AnActor, opaque_in, is_sponsor}
+use Rattle.instr_table.specs.Types.{AnActor, opaque_in, is_sponsor}
 use Rattle.instr_table.specs.Lane.{Lane as Flying}
 use Rattle.instr_table.specs.Reach.{Every}
 use Rattle.vm_sponsor.specs.Ledger.{Ledger, names}
 use Rattle.vm_sponsor.proofs.Framed.{Aside}
 use Rattle.vm_effects.specs.Links.{walk}
-use Rattle.quad_memory.specs.declared.cells.ActorCell.{ActorCell}
 use Rattle.vm_effects.specs.Actors.{all_idle, idle_cell, actor_slot}
 use Rattle.vm_effects.specs.Gathered.{effects_of, made_at, made_from, made_words, sent_words, AreMade}
 use Rattle.vm_effects.proofs.Chains.{chained-among}
@@ -32,7 +30,7 @@ use Rattle.vm_effects.proofs.Records.{made_words-read}
 use Rattle.vm_effects.proofs.Apart.{own-committed}
 use Rattle.vm_turn.specs.declared.journal.Entry.{Entry}
 use Rattle.vm_turn.specs.declared.journal.Outcome.TheVariants.{Committed}
-use Rattle.vm_turn.specs.State.{State, Message}
+use Rattle.vm_turn.specs.State.{Message}
 use Rattle.vm_turn.specs.Actors.{at_actor, remade, resting, settled}
 use Rattle.vm_turn.specs.Turn.{entry, finish, without, numbered_from}
 use Rattle.vm_step.specs.declared.lane.Lane.{Lane}
@@ -45,10 +43,10 @@ use Rattle.vm_machine.specs.Messages.{is_among, unfinished}
 use Rattle.vm_machine.specs.Flight.{flight_of, Flies, Separate, Pairwise}
 use Rattle.vm_machine.specs.View.{state_of}
 use Rattle.vm_machine.specs.Whole.{Kept, cycles_spent, created_in}
-use Rattle.vm_machine.proofs.Lists.{every-more, every-both, every-removed, pairs-more, pairs-removed, pairs-at, map-removed, get-map}
+use Rattle.vm_machine.proofs.Lists.{every-more, every-both, every-removed, pairs-removed, pairs-at, map-removed, get-map}
 use Rattle.vm_machine.proofs.Messages.{among-append, numbers-below, or-false, unfinished-append}
 use Rattle.vm_machine.proofs.Standing.{ascending-appended}
-use Rattle.vm_machine.proofs.Still.{Flown, separate-turned, separate-still}
+use Rattle.vm_machine.proofs.Still.{Flown, separate-turned}
 use Rattle.vm_machine.proofs.Left.{Opaque, framed-flown, Stayed, stayed}
 use Rattle.vm_machine.proofs.Keeping.{Quiet, quiet, used-same}
 use Rattle.vm_machine.proofs.Idling.{IsActor, sponsor-idle, length-idle}
@@ -106,7 +104,7 @@ module _ (t u : Store) (count : ℕ) (first : W) (linked : AreMade t count first
       let f : Framed before.store after.store idled = subst (λ (x : Store). Framed x after.store idled) (sym bt) (subst (λ (x : Store). Framed t x idled) (sym au) frame) in
       let o : (v : W) → Among v idled → Aside before.store v = subst (λ (x : Store). (v : W) → Among v idled → Aside x v) (sym bt) (λ v a. let q = idled-there v a in record { tag = Actor; words = q.0; there = q.1; not_held = λ z. cc; not_spent = λ z. cc }) in
       let i : (w : W) → is_sponsor (seen after.store) w ≡ is_sponsor (seen before.store) w =
-        λ w. ap (λ (x : Store). is_sponsor (seen x) w) au ∙ ap (λ (x : Seen). is_sponsor x w) seen_is ∙ sponsor-idle (seen t) (made_from t count first) actors w ∙ ap (λ (x : Store). is_sponsor (seen x) w) (sym bt) in
+      λ w. ap (λ (x : Store). is_sponsor (seen x) w) au ∙ ap (λ (x : Seen). is_sponsor x w) seen_is ∙ sponsor-idle (seen t) (made_from t count first) actors w ∙ ap (λ (x : Store). is_sponsor (seen x) w) (sym bt) in
       (quiet before after sheet idled b f o n i r, n)
 
 -- one after the other
@@ -144,17 +142,17 @@ created-room p place lane e k =
     omega (arith, c, k.actors, k.used_room, k.roll_room)
 
 module _ (p : Parts) (place : ℕ) (lane : Lane) (e : slice_get p.flight.items place ≡ Some lane) (k : Kept p)
-         (t u : Memory) (count : ℕ) (first : W) (flight : Vec Lane) (roll : Vec W) (queue : Pending) (journal : Vec Entry) (x y : W)
-         (frame : Framed p.quads.store t.store ((own_at (seen p.quads.store) lane.event).actor ∷ []))
-         (seen_is : seen t.store ≡ altered (seen p.quads.store) (cap_place (own_at (seen p.quads.store) lane.event).actor) (ActorSlot x y undef))
-         (room : t.room ≡ p.quads.room)
-         (made_is : made_from t.store count first ≡ (effects_of p.quads.store lane.effects).created) (linked : AreMade t.store count first)
-         (idle_frame : Framed t.store u.store (made_words (made_from t.store count first))) (idle_seen : seen u.store ≡ all_idle (seen t.store) (made_from t.store count first)) (idle_room : u.room ≡ t.room)
-         (queue_is : queue ≡ appended p.queue (sent_words (effects_of p.quads.store lane.effects).sent))
-         (fits : length p.queue.given + length (effects_of p.quads.store lane.effects).sent ≤ p.queue.room)
-         (entered : roll.items ≡ p.roll.items ++ made_words (made_from t.store count first)) (roll_capacity : vec_capacity p.roll ≤ vec_capacity roll)
-         (items : flight.items ≡ remove p.flight.items place) (len : vec_len flight + 1 ≡ vec_len p.flight) (capacity : vec_capacity p.flight ≤ vec_capacity flight)
-         (entries : journal.items ≡ p.journal.items ++ entry lane.number Committed ∷ []) (journal_len : vec_len journal ≡ vec_len p.journal + 1) (journal_capacity : vec_capacity p.journal ≤ vec_capacity journal) where
+    (t u : Memory) (count : ℕ) (first : W) (flight : Vec Lane) (roll : Vec W) (queue : Pending) (journal : Vec Entry) (x y : W)
+    (frame : Framed p.quads.store t.store ((own_at (seen p.quads.store) lane.event).actor ∷ []))
+    (seen_is : seen t.store ≡ altered (seen p.quads.store) (cap_place (own_at (seen p.quads.store) lane.event).actor) (ActorSlot x y undef))
+    (room : t.room ≡ p.quads.room)
+    (made_is : made_from t.store count first ≡ (effects_of p.quads.store lane.effects).created) (linked : AreMade t.store count first)
+    (idle_frame : Framed t.store u.store (made_words (made_from t.store count first))) (idle_seen : seen u.store ≡ all_idle (seen t.store) (made_from t.store count first)) (idle_room : u.room ≡ t.room)
+    (queue_is : queue ≡ appended p.queue (sent_words (effects_of p.quads.store lane.effects).sent))
+    (fits : length p.queue.given + length (effects_of p.quads.store lane.effects).sent ≤ p.queue.room)
+    (entered : roll.items ≡ p.roll.items ++ made_words (made_from t.store count first)) (roll_capacity : vec_capacity p.roll ≤ vec_capacity roll)
+    (items : flight.items ≡ remove p.flight.items place) (len : vec_len flight + 1 ≡ vec_len p.flight) (capacity : vec_capacity p.flight ≤ vec_capacity flight)
+    (entries : journal.items ≡ p.journal.items ++ entry lane.number Committed ∷ []) (journal_len : vec_len journal ≡ vec_len p.journal + 1) (journal_capacity : vec_capacity p.journal ≤ vec_capacity journal) where
   abbrev s : Store
   s = p.quads.store
 
@@ -210,8 +208,8 @@ module _ (p : Parts) (place : ℕ) (lane : Lane) (e : slice_get p.flight.items p
   others : Every (Flown s u.store sponsors p.queue.given p.queue.ready) rest
   others = every-both Both (Flown s t.store sponsors p.queue.given p.queue.ready) (Flown s u.store sponsors p.queue.given p.queue.ready) rest (λ l b f. other l b f)
       (every-both (Separate s lane) (Flies s sponsors p.queue.given p.queue.ready) Both rest (λ l a b. (a, b))
-        (pairs-at (Separate s) p.flight.items place lane (separate-turned s) e k.apart)
-        (every-removed (Flies s sponsors p.queue.given p.queue.ready) p.flight.items place k.flying))
+      (pairs-at (Separate s) p.flight.items place lane (separate-turned s) e k.apart)
+      (every-removed (Flies s sponsors p.queue.given p.queue.ready) p.flight.items place k.flying))
       (others-flown p place lane e k t frame)
 
   left : Stayed s u.store sponsors p.queue.given p.queue.ready rest
@@ -253,8 +251,8 @@ module _ (p : Parts) (place : ℕ) (lane : Lane) (e : slice_get p.flight.items p
     transfers = (let c : cycles_spent (sheet_in u p.sheet) ≡ cycles_spent (sheet_in p.quads p.sheet) = ap cycles_spent same-sheet in omega (arith, c, k.transfers));
     flying = subst (λ (q : Pending). Every (Flies u.store sponsors q.given q.ready) flight.items) (sym queue_is)
         (subst (λ (ls : List Lane). Every (Flies u.store sponsors (p.queue.given ++ events) (p.queue.ready ++ numbers_from (length p.queue.given) events)) ls) (sym items)
-          (every-more (Flies u.store sponsors p.queue.given p.queue.ready) (Flies u.store sponsors (p.queue.given ++ events) (p.queue.ready ++ numbers_from (length p.queue.given) events)) rest
-            (λ l h. flies-given u.store sponsors p.queue.given p.queue.ready events l h) left.flying));
+        (every-more (Flies u.store sponsors p.queue.given p.queue.ready) (Flies u.store sponsors (p.queue.given ++ events) (p.queue.ready ++ numbers_from (length p.queue.given) events)) rest
+        (λ l h. flies-given u.store sponsors p.queue.given p.queue.ready events l h) left.flying));
     apart = subst (λ (ls : List Lane). Pairwise (Separate u.store) ls) (sym items) left.apart;
     granted = k.granted;
     some_lanes = k.some_lanes;
@@ -263,18 +261,18 @@ module _ (p : Parts) (place : ℕ) (lane : Lane) (e : slice_get p.flight.items p
     flight_room = omega (arith, k.flight_room, capacity);
     queue_room = ap (λ (q : Pending). q.room) queue_is ∙ k.queue_room;
     counts = (
-      let g : length queue.given ≡ length p.queue.given + length events = ap (λ (q : Pending). length q.given) queue_is ∙ length-append p.queue.given events in
-      let r : length queue.ready ≡ length p.queue.ready + length events = ap (λ (q : Pending). length q.ready) queue_is ∙ length-append p.queue.ready (numbers_from (length p.queue.given) events) ∙ ap (λ (n : ℕ). length p.queue.ready + n) (length-numbers (length p.queue.given) events) in
-      omega (arith, k.counts, len, journal_len, g, r));
+        let g : length queue.given ≡ length p.queue.given + length events = ap (λ (q : Pending). length q.given) queue_is ∙ length-append p.queue.given events in
+        let r : length queue.ready ≡ length p.queue.ready + length events = ap (λ (q : Pending). length q.ready) queue_is ∙ length-append p.queue.ready (numbers_from (length p.queue.given) events) ∙ ap (λ (n : ℕ). length p.queue.ready + n) (length-numbers (length p.queue.given) events) in
+        omega (arith, k.counts, len, journal_len, g, r));
     given_room = (
-      let g : length queue.given ≡ length p.queue.given + length events = ap (λ (q : Pending). length q.given) queue_is ∙ length-append p.queue.given events in
-      let r : queue.room ≡ p.queue.room = ap (λ (q : Pending). q.room) queue_is in
-      omega (arith, fits, length-events, g, r));
+        let g : length queue.given ≡ length p.queue.given + length events = ap (λ (q : Pending). length q.given) queue_is ∙ length-append p.queue.given events in
+        let r : queue.room ≡ p.queue.room = ap (λ (q : Pending). q.room) queue_is in
+        omega (arith, fits, length-events, g, r));
     ascending = subst (λ (q : Pending). IsAscending 0 (length q.given) q.ready) (sym queue_is) (ascending-appended p.queue events k.ascending);
     journal_room = (let r : queue.room ≡ p.queue.room = ap (λ (q : Pending). q.room) queue_is in omega (arith, k.journal_room, journal_capacity, r));
     actors = (
-      let n : length roll.items ≡ length p.roll.items + length words = ap (λ (l : List W). length l) entered ∙ length-append p.roll.items words in
-      omega (arith, n, length-words, created-left, same-used, k.actors));
+        let n : length roll.items ≡ length p.roll.items + length words = ap (λ (l : List W). length l) entered ∙ length-append p.roll.items words in
+        omega (arith, n, length-words, created-left, same-used, k.actors));
     used_room = omega (arith, same-used, idle_room, room, k.used_room);
     roll_room = omega (arith, idle_room, room, k.roll_room, roll_capacity);
   }
@@ -284,9 +282,9 @@ module _ (p : Parts) (place : ℕ) (lane : Lane) (e : slice_get p.flight.items p
       → state_of committed ≡ finish (state_of p) place (lane_of p.quads.store lane) (sheet_in p.quads p.sheet) (effects_of p.quads.store lane.effects) Committed
   state-committed next slot_is next_is =
       let at : seen t.store ≡ at_actor (seen s) own.actor (resting (effects_of s lane.effects).next) =
-        seen_is ∙ ap (altered (seen s) (cap_place own.actor)) slot_is
-        ∙ sym (ap (λ (o : Option Slot). remade o (resting next) own.actor (seen s)) flies.busy.2)
-        ∙ ap (λ (o : Option Behaviour). at_actor (seen s) own.actor (resting o)) next_is in
+      seen_is ∙ ap (altered (seen s) (cap_place own.actor)) slot_is
+      ∙ sym (ap (λ (o : Option Slot). remade o (resting next) own.actor (seen s)) flies.busy.2)
+      ∙ ap (λ (o : Option Behaviour). at_actor (seen s) own.actor (resting o)) next_is in
       let st : seen u.store ≡ settled (seen s) own.actor (effects_of s lane.effects) = idle_seen ∙ ap₂ all_idle at made_is in
       let ro : roll.items ≡ p.roll.items ++ map (λ (m : Made). m.actor) (effects_of s lane.effects).created = entered ∙ ap (λ (ms : List Made). p.roll.items ++ made_words ms) made_is in
       let fl = left-flight in
@@ -294,9 +292,9 @@ module _ (p : Parts) (place : ℕ) (lane : Lane) (e : slice_get p.flight.items p
       let jo = entries in
       let nu : length queue.given ≡ length p.queue.given + length (effects_of s lane.effects).sent = ap (λ (q : Pending). length q.given) queue_is ∙ length-append p.queue.given events ∙ ap (λ (n : ℕ). length p.queue.given + n) length-events in
       let me : unfinished queue.given queue.ready (flight_of u.store flight.items) ≡ without lane.number (unfinished p.queue.given p.queue.ready (flight_of s p.flight.items)) ++ numbered_from (length p.queue.given) (effects_of s lane.effects).sent =
-        ap (λ (q : Pending). unfinished q.given q.ready (flight_of u.store flight.items)) queue_is
-        ∙ unfinished-append p.queue.given p.queue.ready (flight_of u.store flight.items) (effects_of s lane.effects).sent
-        ∙ ap (λ (ms : List Message). ms ++ numbered_from (length p.queue.given) (effects_of s lane.effects).sent) messages in
+      ap (λ (q : Pending). unfinished q.given q.ready (flight_of u.store flight.items)) queue_is
+      ∙ unfinished-append p.queue.given p.queue.ready (flight_of u.store flight.items) (effects_of s lane.effects).sent
+      ∙ ap (λ (ms : List Message). ms ++ numbered_from (length p.queue.given) (effects_of s lane.effects).sent) messages in
       λ j. record (state_of p) {
         store = st j;
         roll = ro j;
@@ -311,5 +309,5 @@ module _ (p : Parts) (place : ℕ) (lane : Lane) (e : slice_get p.flight.items p
       messages =
           ap (unfinished p.queue.given p.queue.ready) left-flight
           ∙ unfinished-left p.queue.given p.queue.ready (flight_of s p.flight.items) place (lane_of s lane) (get-map (lane_of s) p.flight.items place lane e) flies.taken
-              (subst (λ (ls : List Flying). Every (Differs lane.number) ls) (sym (ap (flight_of u.store) items ∙ left.flight) ∙ left-flight)
-                (separate-differs s lane rest (pairs-at (Separate s) p.flight.items place lane (separate-turned s) e k.apart)))
+          (subst (λ (ls : List Flying). Every (Differs lane.number) ls) (sym (ap (flight_of u.store) items ∙ left.flight) ∙ left-flight)
+          (separate-differs s lane rest (pairs-at (Separate s) p.flight.items place lane (separate-turned s) e k.apart)))

@@ -1,5 +1,5 @@
 -- A run goes on by one turn.
-use Rattle.std.proofs.Common.{◌≡◌, ℕ, ◌+◌, suc, List, [], ◌∷◌, ◌++◌, Bool, true, false, if◌then◌else◌, ap, refl, sym, ◌∙◌, subst, arith, ◌*◌, ◌≤◌, Option, Some, None, Result, Ok, Err}
+use Rattle.std.proofs.Common.{◌≡◌, ℕ, ◌+◌, suc, List, [], ◌∷◌, ◌++◌, Bool, true, false, if◌then◌else◌, ap, refl, sym, ◌∙◌, subst, arith, ◌≤◌, Option, Some, None, Result, Ok, Err}
 use Rattle.cap_words.specs.Words.{W}
 use Rattle.cap_words.specs.declared.word.Quad.{Quad}
 use Rattle.quad_memory.specs.Image.{RomImage}
@@ -70,10 +70,10 @@ follows-still p q boot seed d n same grant h =
 pub follows-on : (p q : Parts) (boot : W) (seed d n next : ℕ) (a : Answer) (before after : Option (List ℕ)) → next ≡ drawn d → q.grant ≡ p.grant → Takes (turn (state_of p) (pick_of next)) (Ok a) (state_of p) (state_of q) before after
     → unless_out p.out_of (not_rest a) ≡ true → Follows p boot seed d n → Follows q boot seed next (n + 1)
 follows-on p q boot seed d n next a before after e grant t done h = subst (Follows q boot seed next) more (record {
-    run_is = longer ∙ sym (λ i. drawn_run (image i) (grant i) (lanes i) seed (suc n));
-    turns_are = (λ i. completed (booted (image i) (grant i) (lanes i)) (picks seed (suc n))) ∙ counted;
-    drawn_is = generator ∙ sym (drawn-next seed n);
-  })
+  run_is = longer ∙ sym (λ i. drawn_run (image i) (grant i) (lanes i) seed (suc n));
+  turns_are = (λ i. completed (booted (image i) (grant i) (lanes i)) (picks seed (suc n))) ∙ counted;
+  drawn_is = generator ∙ sym (drawn-next seed n);
+})
   where
     more : suc n ≡ n + 1
     more = omega arith
@@ -112,8 +112,8 @@ pub follows-resting : (p q : Parts) (boot : W) (seed d n pick : ℕ) (a : Answer
     → unless_out p.out_of (not_rest a) ≡ false → Follows p boot seed d n → Follows q boot seed d n
 follows-resting p q boot seed d n pick a before after grant t idle h =
     follows-still p q boot seed d n
-        (t.0 ∙ ap unwritten (turn-rests (state_of p) pick (ap (λ (x : Answer). unless_out p.out_of (not_rest x)) (sym t.1) ∙ idle)))
-        grant h
+    (t.0 ∙ ap unwritten (turn-rests (state_of p) pick (ap (λ (x : Answer). unless_out p.out_of (not_rest x)) (sym t.1) ∙ idle)))
+    grant h
 
 -- the turn over the generator's next number is the one over the run's next pick
 pub takes-next : (p : Parts) (t : State) (boot : W) (seed d n next : ℕ) (r : Result Answer WriteFault) (before after : Option (List ℕ)) → next ≡ drawn d → Follows p boot seed d n → Takes (turn (state_of p) (pick_of next)) r (state_of p) t before after

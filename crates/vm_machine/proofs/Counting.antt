@@ -1,6 +1,5 @@
 -- How many messages are unfinished.
-use Rattle.std.proofs.Common.{◌≡◌, ℕ, zero, suc, ◌+◌, ◌<◌, ◌≤◌, nat_eq, List, [], ◌∷◌, length, Option, Some, Bool, true, false, if◌then◌else◌, ap, ap₂, refl, sym, ◌∙◌, arith}
-use Rattle.std.specs.Prelude.{◌||◌, slice_get}
+use Rattle.std.proofs.Common.{◌≡◌, ℕ, suc, ◌+◌, ◌<◌, ◌≤◌, nat_eq, List, [], ◌∷◌, length, Bool, true, false, if◌then◌else◌, ap, refl, sym, ◌∙◌, arith}
 use Rattle.std.proofs.lemmas.Bool.Decides.{nat_tests}
 use Rattle.std.proofs.lemmas.Option.{slice_get_within}
 use Rattle.cap_words.specs.Words.{W}
@@ -62,9 +61,9 @@ count-ready given low (m ∷ ms) h =
     let b = h.1 in
     let gone = below (suc m) (length given) m ms h.2 (omega arith) in
     one-more (is_unfinished ms []) (is_unfinished (m ∷ ms) []) m 0 given (omega arith) (omega (arith, b))
-        (λ k d. let e : nat_eq m k ≡ false = other m k (λ z. d (sym z)) in rw e refl)
-        (rw gone refl)
-        (let e : nat_eq m m ≡ true = itself m in rw e refl)
+    (λ k d. let e : nat_eq m k ≡ false = other m k (λ z. d (sym z)) in rw e refl)
+    (rw gone refl)
+    (let e : nat_eq m m ≡ true = itself m in rw e refl)
     ∙ ap suc (count-ready given (suc m) ms h.2)
 
 -- no other lane flies with that number
@@ -80,8 +79,8 @@ count-unfinished s sponsors given ready (l ∷ ls) h a r =
     let w = slice_get_within given l.number l.event h.0.numbered in
     let o = none-flies s l ls a.0 in
     let e = one-more (is_unfinished ready (flight_of s ls)) (is_unfinished ready (flight_of s (l ∷ ls))) l.number 0 given (omega arith) (omega (arith, w))
-            (λ k d. let e : nat_eq l.number k ≡ false = other l.number k (λ z. d (sym z)) in rw e refl)
-            (rw (h.0.taken, o) refl)
-            (let e : nat_eq l.number l.number ≡ true = itself l.number in rw e (or-true (is_among l.number ready))) in
+    (λ k d. let e : nat_eq l.number k ≡ false = other l.number k (λ z. d (sym z)) in rw e refl)
+    (rw (h.0.taken, o) refl)
+    (let e : nat_eq l.number l.number ≡ true = itself l.number in rw e (or-true (is_among l.number ready))) in
     let m = count-unfinished s sponsors given ready ls h.1 a.1 r in
     omega (arith, e, m)

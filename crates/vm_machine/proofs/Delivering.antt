@@ -1,6 +1,6 @@
 -- A machine after a message was delivered to a device.
-use Rattle.std.proofs.Common.{◌≡◌, ◌⊎◌, ℕ, zero, suc, ◌+◌, ◌<◌, ◌≤◌, List, [], ◌∷◌, ◌++◌, length, Option, Some, None, Result, Ok, Err, Bool, true, false, ap, refl, sym, ◌∙◌, subst, arith, vec_len}
-use Rattle.std.specs.Prelude.{vec_capacity, option_map}
+use Rattle.std.proofs.Common.{◌≡◌, ℕ, ◌+◌, ◌≤◌, List, [], ◌∷◌, ◌++◌, length, Option, Some, None, Ok, Err, Bool, true, false, ap, refl, sym, ◌∙◌, subst, arith, vec_len}
+use Rattle.std.specs.Prelude.{vec_capacity}
 use Rattle.std.specs.Global.{Vec}
 use Rattle.std.specs.List.{Contains}
 use Rattle.hum_outside.specs.Outside.{AppendsFront, appended}
@@ -10,7 +10,6 @@ use Rattle.cap_words.specs.Seen.{seen}
 use Rattle.quad_memory.specs.declared.cells.EventCell.{EventCell}
 use Rattle.quad_memory.specs.Cells.{event_at}
 use Rattle.instr_table.specs.Event.{Sent}
-use Rattle.instr_table.specs.Lane.{Lane as Flying}
 use Rattle.instr_table.specs.Reach.{Every}
 use Rattle.vm_sponsor.specs.Ledger.{names}
 use Rattle.vm_devices.specs.declared.delivery.Done.{Done}
@@ -19,13 +18,12 @@ use Rattle.vm_devices.specs.declared.delivery.WriteFault.{WriteFault}
 use Rattle.vm_devices.specs.Delivery.{Delivers}
 use Rattle.vm_turn.specs.declared.journal.Entry.{Entry}
 use Rattle.vm_turn.specs.declared.journal.Outcome.{Outcome as End}
-use Rattle.vm_turn.specs.declared.journal.Outcome.TheVariants.{Committed as EndCommitted}
 use Rattle.vm_turn.specs.declared.journal.Turn.{Turn as Answer}
 use Rattle.vm_turn.specs.declared.journal.Turn.TheVariants.{Dispatched, Finished}
-use Rattle.vm_turn.specs.State.{State, Message}
+use Rattle.vm_turn.specs.State.{State}
 use Rattle.vm_turn.specs.Actors.{sent_in, sent_at}
 use Rattle.vm_turn.specs.Piece.{piece}
-use Rattle.vm_turn.specs.Turn.{is_in_flight, entry, delivered, refused, deliver, dispatch, device_of, begin}
+use Rattle.vm_turn.specs.Turn.{is_in_flight, entry, delivered, deliver, dispatch, device_of, begin}
 use Rattle.event_queue.specs.Pending.{Pending, IsAscending, without}
 use Rattle.vm_step.specs.declared.lane.Lane.{Lane}
 use Rattle.vm_machine.specs.declared.parts.Parts.{Parts}
@@ -48,8 +46,8 @@ appended-none None = refl
 appended-none (Some bytes) = ap (λ (bs : List ℕ). Some bs) (append-none bytes)
 
 module _ (p : Parts) (k : Kept p) (number : ℕ) (ready : Contains p.queue.ready number) (queue : Pending) (journal : Vec Entry) (end : End)
-         (queue_is : queue ≡ record p.queue { ready = without number p.queue.ready })
-         (entries : journal.items ≡ p.journal.items ++ entry number end ∷ []) (journal_len : vec_len journal ≡ vec_len p.journal + 1) (journal_capacity : vec_capacity p.journal ≤ vec_capacity journal) where
+    (queue_is : queue ≡ record p.queue { ready = without number p.queue.ready })
+    (entries : journal.items ≡ p.journal.items ++ entry number end ∷ []) (journal_len : vec_len journal ≡ vec_len p.journal + 1) (journal_capacity : vec_capacity p.journal ≤ vec_capacity journal) where
   abbrev told : Parts
   told = record p { queue = queue; journal = journal }
 
@@ -83,9 +81,9 @@ module _ (p : Parts) (k : Kept p) (number : ℕ) (ready : Contains p.queue.ready
     flight_room = k.flight_room;
     queue_room = ap (λ (q : Pending). q.room) queue_is ∙ k.queue_room;
     counts = (
-      let g : length queue.given ≡ length p.queue.given = ap (λ (q : Pending). length q.given) queue_is in
-      let r : length queue.ready + 1 ≡ length p.queue.ready = ap (λ (q : Pending). length q.ready + 1) queue_is ∙ length-without 0 (length p.queue.given) p.queue.ready number k.ascending among in
-      omega (arith, k.counts, journal_len, g, r));
+        let g : length queue.given ≡ length p.queue.given = ap (λ (q : Pending). length q.given) queue_is in
+        let r : length queue.ready + 1 ≡ length p.queue.ready = ap (λ (q : Pending). length q.ready + 1) queue_is ∙ length-without 0 (length p.queue.given) p.queue.ready number k.ascending among in
+        omega (arith, k.counts, journal_len, g, r));
     given_room = (let g : length queue.given ≡ length p.queue.given = ap (λ (q : Pending). length q.given) queue_is in let r : queue.room ≡ p.queue.room = ap (λ (q : Pending). q.room) queue_is in omega (arith, k.given_room, g, r));
     ascending = subst (λ (q : Pending). IsAscending 0 (length q.given) q.ready) (sym queue_is) (ascending-without number 0 (length p.queue.given) p.queue.ready k.ascending);
     journal_room = (let r : queue.room ≡ p.queue.room = ap (λ (q : Pending). q.room) queue_is in omega (arith, k.journal_room, journal_capacity, r));
@@ -143,7 +141,7 @@ dispatched-begins p number event word cell e at is =
 pub takes-begun : (s t : State) (x : State × Answer) (number : ℕ) (m : Sent) (before : Option (List ℕ)) → s.output ≡ [] → x ≡ (begin s number m, Dispatched) → t ≡ begin s number m → t.output ≡ [] → Takes x (Ok Dispatched) s t before before
 takes-begun s t x number m before out e is quiet =
     subst (λ (y : State × Answer). Takes y (Ok Dispatched) s t before before) (sym e)
-        (is ∙ unwritten-same (begin s number m) (sym (ap (λ (y : State). y.output) is) ∙ quiet), refl, sym (appended-none before) ∙ ap (appended before) (sym out))
+    (is ∙ unwritten-same (begin s number m) (sym (ap (λ (y : State). y.output) is) ∙ quiet), refl, sym (appended-none before) ∙ ap (appended before) (sym out))
   where
     unwritten-same : (y : State) → y.output ≡ [] → y ≡ unwritten y
     unwritten-same y h = λ j. record y { output = h j }

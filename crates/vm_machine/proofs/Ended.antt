@@ -1,34 +1,32 @@
 -- What is left when an event's actor became idle.
-use Rattle.std.proofs.Common.{◌≡◌, ℕ, zero, suc, ◌+◌, ◌<◌, ◌≤◌, List, [], ◌∷◌, ◌++◌, length, get_or, Option, Some, None, Bool, true, false, ap, ap₂, refl, sym, ◌∙◌, subst, inl, inr, ◌⊎◌, arith, pos}
-use Rattle.std.specs.Prelude.{map, remove, slice_get, slice_set, option_map, IsSome, IfSome, is_some}
+use Rattle.std.proofs.Common.{◌≡◌, ℕ, ◌<◌, List, [], ◌∷◌, length, get_or, Option, Some, ap, refl, sym, ◌∙◌, subst, inl, inr, pos}
+use Rattle.std.specs.Prelude.{remove, slice_get, option_map, IfSome}
 use Rattle.std.proofs.lemmas.List.{length-set}
 use Rattle.std.proofs.lemmas.Option.{slice_get_read}
-use Rattle.cap_words.specs.declared.word.Quad.{Quad}
-use Rattle.cap_words.specs.declared.word.Tag.TheVariants.{Actor, SponsorHeld, SponsorSpent}
-use Rattle.cap_words.specs.Words.{W, Fix, Rom, Ram, Cap, undef}
+use Rattle.cap_words.specs.declared.word.Tag.TheVariants.{Actor}
+use Rattle.cap_words.specs.Words.{W, Fix, Rom, Ram, Cap}
 use Rattle.cap_words.specs.Store.{Store, opaque_cell, used, cap_place}
-use Rattle.cap_words.specs.Seen.{Seen, Slot, ActorSlot, EventSlot, seen, slot_seen, altered}
+use Rattle.cap_words.specs.Seen.{Seen, Slot, ActorSlot, seen, slot_seen, altered}
 use Rattle.cap_words.specs.Frame.{Among, Framed}
-use Rattle.cap_words.proofs.Stores.{named}
 use Rattle.cap_words.proofs.Erased.{actor-there}
 use Rattle.quad_memory.specs.declared.cells.ActorCell.{ActorCell}
 use Rattle.quad_memory.specs.Memory.{Memory}
 use Rattle.quad_memory.specs.Cells.{actor_at, actor_in}
 use Rattle.instr_table.specs.Event.{Behaviour}
-use Rattle.instr_table.specs.Types.{opaque_in, is_sponsor}
+use Rattle.instr_table.specs.Types.{is_sponsor}
 use Rattle.instr_table.specs.Reach.{Every}
 use Rattle.vm_sponsor.specs.Ledger.{Ledger, names}
 use Rattle.vm_sponsor.proofs.Framed.{Aside}
 use Rattle.vm_effects.specs.Actors.{idle_cell, actor_slot}
 use Rattle.vm_step.specs.declared.lane.Lane.{Lane}
-use Rattle.vm_step.specs.Flight.{own_at, lane_of, lane_words}
+use Rattle.vm_step.specs.Flight.{own_at}
 use Rattle.vm_step.specs.Books.{Books}
 use Rattle.vm_machine.specs.declared.parts.Parts.{Parts}
-use Rattle.vm_machine.specs.Flight.{flight_of, Flies, Separate, Pairwise}
+use Rattle.vm_machine.specs.Flight.{Flies, Separate}
 use Rattle.vm_machine.specs.Whole.{Kept}
-use Rattle.vm_machine.proofs.Lists.{every-both, every-at, every-removed, pairs-removed, pairs-at}
+use Rattle.vm_machine.proofs.Lists.{every-both, every-at, every-removed, pairs-at}
 use Rattle.vm_machine.proofs.Still.{Flown, separate-turned}
-use Rattle.vm_machine.proofs.Left.{actor-flown, Stayed, stayed}
+use Rattle.vm_machine.proofs.Left.{actor-flown}
 use Rattle.vm_machine.proofs.Keeping.{sponsor-altered, used-same, Quiet, quiet}
 
 -- the slot under an opaque word stands at its place
@@ -90,9 +88,9 @@ module _ (p : Parts) (place : ℕ) (lane : Lane) (e : slice_get p.flight.items p
   others-flown after f =
       let b = flies-at.busy in
       every-both (Separate p.quads.store lane) (Flies p.quads.store (names p.sheet.rows) p.queue.given p.queue.ready) (Flown p.quads.store after.store (names p.sheet.rows) p.queue.given p.queue.ready) (remove p.flight.items place)
-          (λ l x y. actor-flown p.quads.store after.store (own_at (seen p.quads.store) lane.event).actor (names p.sheet.rows) p.queue.given p.queue.ready l b.0 b.1 (Fix (pos lane.number)) f b.2 y (λ h. x.numbers (sym (number_in h))))
-          (pairs-at (Separate p.quads.store) p.flight.items place lane (separate-turned p.quads.store) e k.apart)
-          (every-removed (Flies p.quads.store (names p.sheet.rows) p.queue.given p.queue.ready) p.flight.items place k.flying)
+      (λ l x y. actor-flown p.quads.store after.store (own_at (seen p.quads.store) lane.event).actor (names p.sheet.rows) p.queue.given p.queue.ready l b.0 b.1 (Fix (pos lane.number)) f b.2 y (λ h. x.numbers (sym (number_in h))))
+      (pairs-at (Separate p.quads.store) p.flight.items place lane (separate-turned p.quads.store) e k.apart)
+      (every-removed (Flies p.quads.store (names p.sheet.rows) p.queue.given p.queue.ready) p.flight.items place k.flying)
     where
       number_in : {m n : ℕ} → Fix (pos m) ≡ Fix (pos n) → m ≡ n
       number_in h = cc

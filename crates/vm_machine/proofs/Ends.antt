@@ -1,6 +1,6 @@
 -- The messages and lanes that are left when an event ends.
-use Rattle.std.proofs.Common.{◌≡◌, ℕ, zero, suc, ◌+◌, ◌<◌, ◌≤◌, nat_eq, List, [], ◌∷◌, ◌++◌, length, Option, Some, None, Bool, true, false, if◌then◌else◌, ap, ap₂, refl, sym, ◌∙◌, subst, inl, inr, ◌⊎◌, arith, pos}
-use Rattle.std.specs.Prelude.{map, remove, slice_get, slice_set, ◌||◌}
+use Rattle.std.proofs.Common.{◌≡◌, ℕ, zero, suc, nat_eq, List, [], ◌∷◌, Some, Bool, true, false, if◌then◌else◌, ap, refl, sym, arith}
+use Rattle.std.specs.Prelude.{remove, slice_get, ◌||◌}
 use Rattle.std.proofs.lemmas.Bool.Decides.{nat_tests}
 use Rattle.cap_words.specs.Words.{W}
 use Rattle.cap_words.specs.Store.{Store}
@@ -8,7 +8,6 @@ use Rattle.instr_table.specs.Lane.{Lane as Flying}
 use Rattle.instr_table.specs.Reach.{Every}
 use Rattle.vm_turn.specs.Turn.{is_in_flight, without}
 use Rattle.vm_step.specs.declared.lane.Lane.{Lane}
-use Rattle.vm_step.specs.Flight.{lane_of}
 use Rattle.vm_machine.specs.Messages.{is_among, is_unfinished, unfinished}
 use Rattle.vm_machine.specs.Flight.{flight_of, Separate}
 use Rattle.vm_machine.proofs.Messages.{kept-without}

@@ -1,22 +1,21 @@
 -- A sponsor's signal, when an event ran out.
-use Rattle.std.proofs.Common.{◌≡◌, ◌⊎◌, inl, inr, ℕ, zero, suc, ◌+◌, ◌<◌, ◌≤◌, nat_eq, List, [], ◌∷◌, ◌++◌, length, Option, Some, None, Bool, true, false, if◌then◌else◌, ap, refl, sym, ◌∙◌, subst, arith}
-use Rattle.std.specs.Prelude.{slice_get, remove}
-use Rattle.std.specs.List.{sum_by}
+use Rattle.std.proofs.Common.{◌≡◌, inl, inr, ℕ, suc, ◌+◌, ◌<◌, ◌≤◌, nat_eq, List, [], ◌∷◌, length, Option, Some, Bool, true, false, if◌then◌else◌, ap, refl, sym, subst, arith}
+use Rattle.std.specs.Prelude.{slice_get}
 use Rattle.std.proofs.lemmas.List.Sums.{sum_by-cons}
 use Rattle.cap_words.specs.Words.{W}
 use Rattle.cap_words.specs.Frame.{Among}
 use Rattle.instr_table.specs.declared.charge.Quota.{Quota}
 use Rattle.instr_table.specs.declared.charge.Quota.TheVariants.{Events}
 use Rattle.instr_table.specs.Event.{no_effects}
-use Rattle.instr_table.specs.Sheet.{Account, account, prepared, stop, signal_in, amount}
+use Rattle.instr_table.specs.Sheet.{Account, prepared}
 use Rattle.instr_table.specs.Lane.{Lane as Flying}
 use Rattle.instr_table.specs.Reach.{Every}
 use Rattle.vm_sponsor.specs.declared.amounts.Amounts.{Amounts}
 use Rattle.vm_sponsor.specs.Totals.{total, kept}
 use Rattle.vm_turn.specs.declared.journal.Outcome.{Outcome}
 use Rattle.vm_turn.specs.State.{State, Message}
-use Rattle.vm_turn.specs.Turn.{without, numbered_from, finish}
-use Rattle.vm_turn.specs.Sound.{Sound, message_words, sent_by, signals, signals_of, as_list, spent_by_all, spent_of}
+use Rattle.vm_turn.specs.Turn.{without, finish}
+use Rattle.vm_turn.specs.Sound.{Sound, message_words, sent_by, signals_of, as_list, spent_by_all, spent_of}
 use Rattle.vm_turn.proofs.Places.{account-under, signal-no_message, signal-not_sent}
 use Rattle.vm_machine.proofs.Lists.{every-removed}
 use Rattle.vm_machine.proofs.Failing.{append-none}

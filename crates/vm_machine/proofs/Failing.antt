@@ -1,24 +1,21 @@
 -- A machine after an event ended without effects.
-use Rattle.std.proofs.Common.{◌≡◌, ℕ, zero, suc, ◌+◌, ◌<◌, ◌≤◌, List, [], ◌∷◌, ◌++◌, length, get_or, Option, Some, None, false, ap, ap₂, refl, sym, ◌∙◌, subst, arith, pos, vec_len}
-use Rattle.std.specs.Prelude.{map, remove, slice_get, vec_capacity}
+use Rattle.std.proofs.Common.{◌≡◌, ℕ, ◌+◌, ◌<◌, ◌≤◌, List, [], ◌∷◌, ◌++◌, length, Option, Some, None, false, ap, ap₂, refl, sym, ◌∙◌, subst, arith, pos, vec_len}
+use Rattle.std.specs.Prelude.{remove, slice_get, vec_capacity}
 use Rattle.std.specs.Global.{Vec}
-use Rattle.std.specs.List.{sum_by}
 use Rattle.std.proofs.lemmas.List.{length-map}
 use Rattle.std.proofs.lemmas.List.Sums.{sum_by-remove}
 use Rattle.std.proofs.lemmas.Option.{slice_get_within}
 use Rattle.cap_words.specs.Words.{W, Fix, undef}
 use Rattle.cap_words.specs.Store.{used, cap_place}
-use Rattle.cap_words.specs.Seen.{Seen, Slot, ActorSlot, seen, slot_seen, altered}
+use Rattle.cap_words.specs.Seen.{Seen, Slot, ActorSlot, seen, altered}
 use Rattle.cap_words.specs.Frame.{Framed}
 use Rattle.quad_memory.specs.Memory.{Memory}
 use Rattle.instr_table.specs.Event.{no_effects}
-use Rattle.instr_table.specs.Sheet.{Account}
 use Rattle.instr_table.specs.Lane.{Lane as Flying}
 use Rattle.instr_table.specs.Reach.{Every}
 use Rattle.vm_sponsor.specs.Ledger.{names}
 use Rattle.vm_turn.specs.declared.journal.Entry.{Entry}
 use Rattle.vm_turn.specs.declared.journal.Outcome.{Outcome}
-use Rattle.vm_turn.specs.State.{State, Message}
 use Rattle.vm_turn.specs.Actors.{at_actor, remade, resting}
 use Rattle.vm_turn.specs.Turn.{entry, finish, without}
 use Rattle.vm_step.specs.declared.lane.Lane.{Lane}
@@ -30,7 +27,7 @@ use Rattle.vm_machine.specs.Flight.{flight_of, Flies, Separate, Pairwise}
 use Rattle.vm_machine.specs.View.{state_of}
 use Rattle.vm_machine.specs.Whole.{Kept, cycles_spent, created_in}
 use Rattle.vm_machine.proofs.Lists.{pairs-removed, pairs-at, map-removed, get-map}
-use Rattle.vm_machine.proofs.Still.{Flown, separate-turned}
+use Rattle.vm_machine.proofs.Still.{separate-turned}
 use Rattle.vm_machine.proofs.Left.{Stayed, stayed}
 use Rattle.vm_machine.proofs.Keeping.{Quiet}
 use Rattle.vm_machine.proofs.Ends.{Differs, unfinished-left, separate-differs}
@@ -46,11 +43,11 @@ append-none [] = refl
 append-none {A = A} (x ∷ xs) = ap (λ (ys : List A). x ∷ ys) (append-none xs)
 
 module _ (p : Parts) (place : ℕ) (lane : Lane) (e : slice_get p.flight.items place ≡ Some lane) (k : Kept p) (after : Memory) (flight : Vec Lane) (journal : Vec Entry) (end : Outcome) (x y : W)
-         (frame : Framed p.quads.store after.store ((own_at (seen p.quads.store) lane.event).actor ∷ []))
-         (seen_is : seen after.store ≡ altered (seen p.quads.store) (cap_place (own_at (seen p.quads.store) lane.event).actor) (ActorSlot x y undef))
-         (room : after.room ≡ p.quads.room)
-         (items : flight.items ≡ remove p.flight.items place) (len : vec_len flight + 1 ≡ vec_len p.flight) (capacity : vec_capacity p.flight ≤ vec_capacity flight)
-         (entries : journal.items ≡ p.journal.items ++ entry lane.number end ∷ []) (journal_len : vec_len journal ≡ vec_len p.journal + 1) (journal_capacity : vec_capacity p.journal ≤ vec_capacity journal) where
+    (frame : Framed p.quads.store after.store ((own_at (seen p.quads.store) lane.event).actor ∷ []))
+    (seen_is : seen after.store ≡ altered (seen p.quads.store) (cap_place (own_at (seen p.quads.store) lane.event).actor) (ActorSlot x y undef))
+    (room : after.room ≡ p.quads.room)
+    (items : flight.items ≡ remove p.flight.items place) (len : vec_len flight + 1 ≡ vec_len p.flight) (capacity : vec_capacity p.flight ≤ vec_capacity flight)
+    (entries : journal.items ≡ p.journal.items ++ entry lane.number end ∷ []) (journal_len : vec_len journal ≡ vec_len p.journal + 1) (journal_capacity : vec_capacity p.journal ≤ vec_capacity journal) where
   abbrev s : Seen
   s = seen p.quads.store
 
@@ -100,10 +97,10 @@ module _ (p : Parts) (place : ℕ) (lane : Lane) (e : slice_get p.flight.items p
     ascending = k.ascending;
     journal_room = omega (arith, k.journal_room, journal_capacity);
     actors = (
-      let within : place < length (flight_of p.quads.store p.flight.items) = (let w = slice_get_within p.flight.items place lane e in omega (arith, w, length-map p.flight.items (lane_of p.quads.store))) in
-      let fewer = created-removed (flight_of p.quads.store p.flight.items) place within in
-      let new : created_in (flight_of after.store flight.items) ≡ created_in (remove (flight_of p.quads.store p.flight.items) place) = ap created_in left-flight in
-      omega (arith, fewer, new, used-same, k.actors));
+        let within : place < length (flight_of p.quads.store p.flight.items) = (let w = slice_get_within p.flight.items place lane e in omega (arith, w, length-map p.flight.items (lane_of p.quads.store))) in
+        let fewer = created-removed (flight_of p.quads.store p.flight.items) place within in
+        let new : created_in (flight_of after.store flight.items) ≡ created_in (remove (flight_of p.quads.store p.flight.items) place) = ap created_in left-flight in
+        omega (arith, fewer, new, used-same, k.actors));
     used_room = omega (arith, used-same, room, k.used_room);
     roll_room = omega (arith, room, k.roll_room);
   }
@@ -113,9 +110,9 @@ module _ (p : Parts) (place : ℕ) (lane : Lane) (e : slice_get p.flight.items p
   left-messages =
       ap (unfinished p.queue.given p.queue.ready) left-flight
       ∙ unfinished-left p.queue.given p.queue.ready (flight_of p.quads.store p.flight.items) place (lane_of p.quads.store lane) (get-map (lane_of p.quads.store) p.flight.items place lane e) flies.taken
-          (subst (λ (ls : List Flying). Every (Differs lane.number) ls) (ap (flight_of after.store) (sym items) ∙ left-flight)
-            (subst (λ (ls : List Flying). Every (Differs lane.number) ls) (sym rest.flight)
-              (separate-differs p.quads.store lane (remove p.flight.items place) (pairs-at (Separate p.quads.store) p.flight.items place lane (separate-turned p.quads.store) e k.apart))))
+      (subst (λ (ls : List Flying). Every (Differs lane.number) ls) (ap (flight_of after.store) (sym items) ∙ left-flight)
+      (subst (λ (ls : List Flying). Every (Differs lane.number) ls) (sym rest.flight)
+      (separate-differs p.quads.store lane (remove p.flight.items place) (pairs-at (Separate p.quads.store) p.flight.items place lane (separate-turned p.quads.store) e k.apart))))
 
   -- so the state is the one without the event
   pub state-failed : x ≡ (flies-at p place lane e k).busy.0 → y ≡ (flies-at p place lane e k).busy.1 → state_of failed ≡ finish (state_of p) place (lane_of p.quads.store lane) (sheet_in p.quads p.sheet) no_effects end

@@ -1,8 +1,7 @@
 -- What an instruction that goes on leaves of all lanes.
-use Rattle.std.proofs.Common.{◌≡◌, ℕ, zero, suc, ◌+◌, ◌<◌, ◌≤◌, List, [], ◌∷◌, ◌++◌, length, Option, Some, None, Bool, true, false, nat_eq, if◌then◌else◌, ap, ap₂, refl, sym, ◌∙◌, subst, inl, inr, ◌⊎◌, arith, pos}
-use Rattle.std.specs.Prelude.{map, remove, slice_get, slice_set, ◌||◌}
+use Rattle.std.proofs.Common.{◌≡◌, ℕ, zero, suc, List, [], ◌∷◌, Option, Some, None, Bool, true, nat_eq, if◌then◌else◌, ap, refl, sym, ◌∙◌, subst, inl, inr, ◌⊎◌, arith, pos}
+use Rattle.std.specs.Prelude.{remove, slice_get, slice_set, ◌||◌}
 use Rattle.std.proofs.lemmas.List.{length-map}
-use Rattle.cap_words.specs.declared.word.Quad.{Quad}
 use Rattle.cap_words.specs.Words.{W, Fix, Cap}
 use Rattle.cap_words.specs.Store.{Store, used}
 use Rattle.cap_words.specs.Seen.{Seen, Slot, ActorSlot, EventSlot, seen, erase, cell_seen, slot_seen, grown}
@@ -13,19 +12,19 @@ use Rattle.instr_table.specs.Code.{fetched}
 use Rattle.instr_table.specs.Event.{Own, Effects, Effect, Nothing, Sends, Creates, Assigns, Becomes, Sponsors, Grants, Reclaims, Starts, Stops, with_effect}
 use Rattle.instr_table.specs.Lists.{next_quad, item}
 use Rattle.instr_table.specs.Making.{MakesNamed, MadeWith}
-use Rattle.instr_table.specs.Outcome.{Going, Outcome, Goes}
+use Rattle.instr_table.specs.Outcome.{Going, Goes}
 use Rattle.instr_table.specs.Sheet.{Account}
-use Rattle.instr_table.specs.Lane.{after_going, gone, lane_row, values, Lane as Flying}
+use Rattle.instr_table.specs.Lane.{lane_row, values, Lane as Flying}
 use Rattle.instr_table.specs.Reach.{Every}
 use Rattle.instr_table.proofs.Makings.{row_at-makes}
 use Rattle.vm_sponsor.specs.Ledger.{Ledger, names}
-use Rattle.vm_effects.specs.Gathered.{effects_of, own_words, IsLinked}
+use Rattle.vm_effects.specs.Gathered.{effects_of, own_words}
 use Rattle.vm_effects.proofs.Records.{effects-kept, own-sent, own-created}
 use Rattle.vm_effects.proofs.Apart.{own-free, own_words-sends, own_words-creates, own_words-assigns, used-grown}
 use Rattle.vm_turn.specs.Turn.{is_in_flight}
 use Rattle.vm_step.specs.declared.lane.Lane.{Lane}
-use Rattle.vm_step.specs.Flight.{own_at, stack_of, lane_of, lane_words, Held, Aside}
-use Rattle.vm_step.specs.Step.{GoesOn, Stays, sheet_in, payer, row_in}
+use Rattle.vm_step.specs.Flight.{own_at, stack_of, lane_of, lane_words, Aside}
+use Rattle.vm_step.specs.Step.{GoesOn, Stays}
 use Rattle.vm_machine.specs.Messages.{is_among, is_unfinished, unfinished}
 use Rattle.vm_machine.specs.Flight.{flight_of, Flies, Separate, Pairwise}
 use Rattle.vm_machine.proofs.Lists.{every-more, every-both, every-at, every-removed, every-set, pairs-more, pairs-removed, pairs-at, pairs-set, map-set}

@@ -1,10 +1,10 @@
 -- What is seen of a store that has grown.
-use Rattle.std.proofs.Common.{◌≡◌, ℕ, zero, suc, ◌+◌, ◌<◌, ◌≤◌, List, [], ◌∷◌, ◌++◌, length, drop, Option, Some, None, ap, refl, sym, ◌∙◌, subst, arith, append_assoc}
+use Rattle.std.proofs.Common.{◌≡◌, List, [], ◌∷◌, ◌++◌, drop, Option, Some, None, ap, refl, sym, ◌∙◌, append_assoc}
 use Rattle.std.specs.Prelude.{slice_get}
 use Rattle.std.proofs.lemmas.Option.{slice_get_within}
 use Rattle.cap_words.specs.declared.word.Quad.{Quad}
 use Rattle.cap_words.specs.Words.{W, Fix, Rom, Ram, Cap}
-use Rattle.cap_words.specs.Seen.{Seen, Slot, OpenSlot, ActorSlot, UnbornSlot, EventSlot, SponsorSlot, SpentSlot, cell_seen, slot_seen, open_in, grown}
+use Rattle.cap_words.specs.Seen.{Seen, Slot, OpenSlot, cell_seen, slot_seen, open_in, grown}
 use Rattle.cap_words.proofs.Places.{get-left}
 use Rattle.instr_table.specs.Lists.{pair_quad}
 use Rattle.instr_table.specs.Outcome.{Going}

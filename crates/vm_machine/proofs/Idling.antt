@@ -1,5 +1,5 @@
 -- What is seen of sponsors where actors became idle.
-use Rattle.std.proofs.Common.{◌≡◌, ℕ, zero, suc, ◌+◌, List, [], ◌∷◌, length, Option, Some, None, Bool, true, false, nat_eq, ap, refl, sym, ◌∙◌, arith}
+use Rattle.std.proofs.Common.{◌≡◌, List, [], ◌∷◌, length, Some, Bool, true, false, nat_eq, ap, refl, sym, ◌∙◌, arith}
 use Rattle.std.specs.Prelude.{slice_get, slice_set}
 use Rattle.std.proofs.lemmas.Bool.Decides.{nat_tests}
 use Rattle.std.proofs.lemmas.List.{length-set}
@@ -9,7 +9,7 @@ use Rattle.cap_words.specs.Store.{cap_place}
 use Rattle.cap_words.specs.Seen.{Seen, Slot, ActorSlot, altered}
 use Rattle.cap_words.proofs.Places.{get-set_same, get-set_other}
 use Rattle.instr_table.specs.Event.{Made}
-use Rattle.instr_table.specs.Types.{Shown, AnActor, opaque_in, is_sponsor}
+use Rattle.instr_table.specs.Types.{AnActor, opaque_in, is_sponsor}
 use Rattle.instr_table.specs.Reach.{Every}
 use Rattle.vm_effects.specs.Actors.{all_idle}
 use Rattle.vm_machine.proofs.Lists.{every-more}

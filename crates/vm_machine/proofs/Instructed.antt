@@ -1,13 +1,12 @@
 -- A machine after one instruction of an event in flight.
-use Rattle.std.proofs.Common.{◌≡◌, ◌⊎◌, inl, inr, ℕ, zero, suc, ◌+◌, ◌*◌, ◌^◌, ◌<◌, ◌≤◌, List, [], ◌∷◌, ◌++◌, length, get_or, Option, Some, None, Bool, true, false, if◌then◌else◌, ap, ap₂, refl, sym, ◌∙◌, subst, arith, pos, vec_len, length-append}
-use Rattle.std.specs.Prelude.{map, remove, slice_get, slice_set, vec_capacity, IsTrue}
+use Rattle.std.proofs.Common.{◌≡◌, ℕ, suc, ◌+◌, ◌*◌, ◌^◌, ◌<◌, ◌≤◌, List, [], ◌∷◌, length, Option, Some, None, Bool, true, false, if◌then◌else◌, ap, ap₂, refl, sym, ◌∙◌, subst, arith, vec_len, length-append}
+use Rattle.std.specs.Prelude.{slice_get, slice_set, vec_capacity, IsTrue}
 use Rattle.std.specs.Global.{Vec}
-use Rattle.std.specs.List.{sum_by}
 use Rattle.std.proofs.lemmas.Bool.Decides.{nat_tests}
 use Rattle.std.proofs.lemmas.List.{length-map, length-set}
 use Rattle.cap_words.specs.Words.{W, Cap, same_word}
 use Rattle.cap_words.specs.Store.{Store, used}
-use Rattle.cap_words.specs.Seen.{Seen, Slot, UnbornSlot, SponsorSlot, seen, erase, cell_seen, slot_seen}
+use Rattle.cap_words.specs.Seen.{Seen, Slot, seen, erase, cell_seen, slot_seen}
 use Rattle.cap_words.specs.Frame.{Among}
 use Rattle.cap_words.proofs.Places.{set-same}
 use Rattle.quad_memory.specs.Memory.{Memory}
@@ -20,17 +19,14 @@ use Rattle.instr_table.specs.Lists.{item}
 use Rattle.instr_table.specs.Making.{MakesNamed, MadeWith}
 use Rattle.instr_table.specs.Outcome.{Going, Outcome, Goes, Faults, Commits, Row}
 use Rattle.instr_table.specs.Sheet.{Account, account, short, spend, sheet_after, paid}
-use Rattle.instr_table.specs.Lane.{after_going, gone, lane_row, values, Lane as Flying}
+use Rattle.instr_table.specs.Lane.{gone, lane_row, values, Lane as Flying}
 use Rattle.instr_table.specs.Reach.{Every}
 use Rattle.instr_table.proofs.Makings.{row_at-makes}
 use Rattle.vm_sponsor.specs.Grant.{is_grant}
 use Rattle.vm_sponsor.specs.Ledger.{Ledger, names}
 use Rattle.vm_sponsor.specs.Totals.{sponsors}
 use Rattle.vm_sponsor.proofs.Plain.{sponsors-at_account}
-use Rattle.vm_effects.specs.Gathered.{effects_of}
-use Rattle.vm_effects.proofs.Records.{effects-kept, own-sent, own-created}
-use Rattle.vm_turn.specs.State.{State}
-use Rattle.vm_turn.specs.Sound.{Sound}
+use Rattle.vm_effects.proofs.Records.{effects-kept}
 use Rattle.vm_turn.specs.Turn.{go_on}
 use Rattle.vm_turn.proofs.Sums.{sum-set}
 use Rattle.vm_turn.proofs.Slots.{length-going}
@@ -39,8 +35,8 @@ use Rattle.vm_turn.proofs.Sponsors.{allowed}
 use Rattle.vm_turn.proofs.Grants.{HeldBy, row_at-holds}
 use Rattle.vm_step.specs.declared.lane.Lane.{Lane}
 use Rattle.vm_step.specs.declared.lane.StepEnd.{StepEnd}
-use Rattle.vm_step.specs.Flight.{own_at, stack_of, lane_of, lane_words, Aside}
-use Rattle.vm_step.specs.Step.{GoesOn, PaysOnly, ActsBy, StepsBy, Steps, Stays, sheet_in, payer, row_in}
+use Rattle.vm_step.specs.Flight.{own_at, stack_of, lane_of, Aside}
+use Rattle.vm_step.specs.Step.{GoesOn, ActsBy, StepsBy, Steps, Stays, sheet_in, payer}
 use Rattle.vm_machine.specs.declared.parts.Parts.{Parts}
 use Rattle.vm_machine.specs.Messages.{unfinished}
 use Rattle.vm_machine.specs.Flight.{flight_of, Flies, Separate, Pairwise}
@@ -48,11 +44,11 @@ use Rattle.vm_machine.specs.View.{state_of}
 use Rattle.vm_machine.specs.Whole.{Kept, Whole, cycles_spent, created_in}
 use Rattle.vm_machine.specs.Steps.{PaidTo, StepsAs, StepsTo}
 use Rattle.vm_machine.proofs.Exhausting.{spent-under}
-use Rattle.vm_machine.proofs.Lists.{every-more, every-at, get-map}
+use Rattle.vm_machine.proofs.Lists.{every-more, get-map}
 use Rattle.vm_machine.proofs.Still.{Flown, still}
 use Rattle.vm_machine.proofs.Left.{Stayed, stayed}
 use Rattle.vm_machine.proofs.Keeping.{used-same}
-use Rattle.vm_machine.proofs.Going.{flies-more, Went, went, went-number, unfinished-set}
+use Rattle.vm_machine.proofs.Going.{flies-more, Went, went, unfinished-set}
 
 -- ---- a payment changes no lane
 
@@ -91,8 +87,8 @@ created-more payer controller s made e (Starts w z) h = omega arith
 created-more payer controller s made e (Stops w) h = omega arith
 
 module _ (p : Parts) (whole : Whole p) (place : ℕ) (lane m : Lane) (at : slice_get p.flight.items place ≡ Some lane) (after : Memory) (sheet : Ledger) (flight : Vec Lane) (stuck : Bool)
-         (items : flight.items ≡ slice_set p.flight.items place m) (len : vec_len flight ≡ vec_len p.flight) (capacity : vec_capacity p.flight ≤ vec_capacity flight)
-         (stays : Stays p.quads after p.sheet sheet) where
+    (items : flight.items ≡ slice_set p.flight.items place m) (len : vec_len flight ≡ vec_len p.flight) (capacity : vec_capacity p.flight ≤ vec_capacity flight)
+    (stays : Stays p.quads after p.sheet sheet) where
   abbrev k : Kept p
   k = whole.kept
 
@@ -153,7 +149,7 @@ module _ (p : Parts) (whole : Whole p) (place : ℕ) (lane m : Lane) (at : slice
     lanes_stay : Stayed s t (names p.sheet.rows) p.queue.given p.queue.ready p.flight.items
     lanes_stay = stayed s t (names p.sheet.rows) p.queue.given p.queue.ready p.flight.items
         (every-more (Flies s (names p.sheet.rows) p.queue.given p.queue.ready) (Flown s t (names p.sheet.rows) p.queue.given p.queue.ready) p.flight.items
-          (λ x h. aside-flown s t (names p.sheet.rows) p.queue.given p.queue.ready x f seen_is (omega (arith, quads_same)) h) k.flying) k.apart
+        (λ x h. aside-flown s t (names p.sheet.rows) p.queue.given p.queue.ready x f seen_is (omega (arith, quads_same)) h) k.flying) k.apart
 
     flight_stays : flight_of t flight.items ≡ flight_of s p.flight.items
     flight_stays = ap (flight_of t) whole_items ∙ lanes_stay.flight
@@ -161,8 +157,8 @@ module _ (p : Parts) (whole : Whole p) (place : ℕ) (lane m : Lane) (at : slice
     quiet_kept : sheet.transfers ≤ 3 * cycles_spent (sheet_in after sheet) → Kept instructed
     quiet_kept transfers = keeping
         (subst (λ (ls : List Lane). Every (Flies t (names sheet.rows) p.queue.given p.queue.ready) ls) (sym whole_items)
-          (every-more (Flies t (names p.sheet.rows) p.queue.given p.queue.ready) (Flies t (names sheet.rows) p.queue.given p.queue.ready) p.flight.items
-            (λ x h. flies-more t (names p.sheet.rows) (names sheet.rows) p.queue.given p.queue.ready x stays.sponsors h) lanes_stay.flying))
+        (every-more (Flies t (names p.sheet.rows) p.queue.given p.queue.ready) (Flies t (names sheet.rows) p.queue.given p.queue.ready) p.flight.items
+        (λ x h. flies-more t (names p.sheet.rows) (names sheet.rows) p.queue.given p.queue.ready x stays.sponsors h) lanes_stay.flying))
         (subst (λ (ls : List Lane). Pairwise (Separate t) ls) (sym whole_items) lanes_stay.apart)
         (let c = ap created_in flight_stays in omega (arith, c, k.actors, quads_same))
         transfers fitting
@@ -191,14 +187,14 @@ module _ (p : Parts) (whole : Whole p) (place : ℕ) (lane m : Lane) (at : slice
     held_by : HeldBy (seen s) (spend rows l.own.sponsor c) l.own.sponsor (Goes g)
     held_by = subst (HeldBy (seen s) (spend rows l.own.sponsor c) l.own.sponsor) outcome_is
         (subst (λ (x : Charge). HeldBy (seen s) (spend rows l.own.sponsor x) l.own.sponsor (lane_row (seen s) rows l).outcome) charge_is
-          (row_at-holds l.own (fetched (seen s) l.code) (seen s) rows l.effects (values l.stack)))
+        (row_at-holds l.own (fetched (seen s) l.code) (seen s) rows l.effects (values l.stack)))
 
     effect_allowed : Allowed (spend rows l.own.sponsor c) l.own.sponsor g.effect
     effect_allowed =
         let same : sponsors (spend rows l.own.sponsor c) ≡ sponsors rows = sponsors-at_account l.own.sponsor (paid c) rows (λ a. refl) in
         allowed (seen s) (spend rows l.own.sponsor c) l.own.sponsor g.effect
-            (λ n h. subst (λ (ws : List W). Among (Cap n) ws) (sym same) (whole.sound.listed n h))
-            (subst (λ (ws : List W). Among l.own.sponsor ws) (sym same) (payer-there rows l.own.sponsor c enough)) held_by
+        (λ n h. subst (λ (ws : List W). Among (Cap n) ws) (sym same) (whole.sound.listed n h))
+        (subst (λ (ws : List W). Among l.own.sponsor ws) (sym same) (payer-there rows l.own.sponsor c enough)) held_by
 
     gone-more : sheet.transfers ≤ 3 * cycles_spent (sheet_in after sheet)
     gone-more =

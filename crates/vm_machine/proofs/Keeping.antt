@@ -1,22 +1,18 @@
 -- What keeps the books where quads change that are no sponsor's.
-use Rattle.std.proofs.Common.{◌≡◌, ℕ, zero, suc, ◌+◌, ◌<◌, ◌≤◌, List, [], ◌∷◌, ◌++◌, length, Option, Some, None, Bool, true, false, nat_eq, ap, ap₂, refl, sym, ◌∙◌, subst, inl, inr, ◌⊎◌, arith}
-use Rattle.std.specs.Prelude.{map, slice_get, slice_set, option_map}
+use Rattle.std.proofs.Common.{◌≡◌, ℕ, List, length, Option, Some, None, Bool, true, false, nat_eq, ap, refl, sym, ◌∙◌, arith}
+use Rattle.std.specs.Prelude.{slice_get, slice_set, option_map}
 use Rattle.std.proofs.lemmas.Bool.Decides.{nat_tests}
-use Rattle.std.proofs.lemmas.List.{length-map, length-set}
+use Rattle.std.proofs.lemmas.List.{length-map}
 use Rattle.std.proofs.lemmas.Option.{slice_get_within}
 use Rattle.cap_words.specs.declared.word.Quad.{Quad}
-use Rattle.cap_words.specs.declared.word.Tag.{Tag}
-use Rattle.cap_words.specs.declared.word.Tag.TheVariants.{Ordinary, Actor, Event, SponsorHeld, SponsorSpent}
 use Rattle.cap_words.specs.Words.{W, Fix, Rom, Ram, Cap}
-use Rattle.cap_words.specs.Store.{Store, opaque_cell, used, cap_place}
-use Rattle.cap_words.specs.Seen.{Seen, Slot, ActorSlot, EventSlot, seen, erase, cell_seen, slot_seen, altered}
+use Rattle.cap_words.specs.Store.{Store, used}
+use Rattle.cap_words.specs.Seen.{Seen, Slot, seen, erase, cell_seen, altered}
 use Rattle.cap_words.specs.Frame.{Among, Framed}
 use Rattle.cap_words.proofs.Places.{get-set_same, get-set_other}
 use Rattle.quad_memory.specs.Memory.{Memory}
-use Rattle.instr_table.specs.Types.{Shown, Readable, AnActor, opaque_in, look_up, shows_sponsor, is_sponsor}
-use Rattle.instr_table.specs.Sheet.{Account}
-use Rattle.vm_sponsor.specs.Ledger.{Ledger, names}
-use Rattle.vm_sponsor.specs.Sheets.{sheet_of}
+use Rattle.instr_table.specs.Types.{Readable, opaque_in, look_up, shows_sponsor, is_sponsor}
+use Rattle.vm_sponsor.specs.Ledger.{Ledger}
 use Rattle.vm_sponsor.proofs.Framed.{Aside, sheet-framed, belongs-framed}
 use Rattle.vm_step.specs.Books.{Books, held_quads}
 use Rattle.vm_step.specs.Step.{sheet_in}

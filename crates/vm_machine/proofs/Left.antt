@@ -1,26 +1,24 @@
 -- What a change within the quads of some words leaves of the lanes that have nothing to do with them.
-use Rattle.std.proofs.Common.{◌≡◌, ℕ, zero, suc, ◌+◌, ◌<◌, ◌≤◌, List, [], ◌∷◌, ◌++◌, length, Option, Some, None, Bool, true, false, ap, ap₂, refl, sym, ◌∙◌, subst, inl, inr, ◌⊎◌, arith, pos}
-use Rattle.std.specs.Prelude.{map, remove, slice_get, slice_set}
+use Rattle.std.proofs.Common.{◌≡◌, ℕ, List, [], ◌∷◌, Option, Some, None, ap, sym, ◌∙◌, subst, inl, inr, pos}
+use Rattle.std.specs.Prelude.{slice_get}
 use Rattle.std.proofs.lemmas.Option.{slice_get_within}
 use Rattle.cap_words.specs.declared.word.Quad.{Quad}
 use Rattle.cap_words.specs.declared.word.Tag.{Tag}
-use Rattle.cap_words.specs.declared.word.Tag.TheVariants.{Ordinary, Actor, Event, SponsorHeld, SponsorSpent}
+use Rattle.cap_words.specs.declared.word.Tag.TheVariants.{Ordinary, Actor}
 use Rattle.cap_words.specs.Words.{W, Fix, Rom, Ram, Cap}
-use Rattle.cap_words.specs.Store.{Store, Cell, cell, cell_as, opaque_cell, tagged, used, cap_place}
-use Rattle.cap_words.specs.Seen.{Seen, Slot, ActorSlot, EventSlot, seen, cell_seen, slot_seen}
+use Rattle.cap_words.specs.Store.{Store, Cell, cell, cell_as, opaque_cell, tagged}
+use Rattle.cap_words.specs.Seen.{Slot, ActorSlot, EventSlot, seen, cell_seen, slot_seen}
 use Rattle.cap_words.specs.Frame.{Among, Framed}
 use Rattle.cap_words.proofs.Tags.{tagged_is}
-use Rattle.cap_words.proofs.Stores.{Named, named, opaque_twice}
-use Rattle.cap_words.proofs.Erased.{cell-seen, event-there, actor-there}
+use Rattle.cap_words.proofs.Erased.{cell-seen, actor-there}
 use Rattle.instr_table.specs.Reach.{Every}
-use Rattle.vm_effects.specs.Gathered.{effects_of, IsLinked}
 use Rattle.vm_effects.proofs.Records.{effects-framed, slot-framed}
 use Rattle.vm_effects.proofs.Apart.{own-committed}
 use Rattle.vm_step.specs.declared.lane.Lane.{Lane}
-use Rattle.vm_step.specs.Flight.{own_at, lane_of, lane_words, Held}
+use Rattle.vm_step.specs.Flight.{own_at, lane_of, lane_words}
 use Rattle.vm_machine.specs.Flight.{flight_of, Flies, Separate, Pairwise}
-use Rattle.vm_machine.proofs.Lists.{every-more, every-both, map-same, pairs-more}
-use Rattle.vm_machine.proofs.Still.{Still, Flown, still, separate-still}
+use Rattle.vm_machine.proofs.Lists.{every-more, map-same, pairs-more}
+use Rattle.vm_machine.proofs.Still.{Flown, still, separate-still}
 
 -- each of these words names a quad that no program reads
 abbrev pub Opaque : Store → List W → Type 0

@@ -1,5 +1,5 @@
 -- Facts of each element of a list, and of each two, where one is set, removed or added.
-use Rattle.std.proofs.Common.{◌≡◌, ℕ, zero, suc, ◌+◌, ◌<◌, ◌≤◌, List, [], ◌∷◌, ◌++◌, length, Option, Some, None, ap, ap₂, refl, sym, ◌∙◌, subst, arith}
+use Rattle.std.proofs.Common.{◌≡◌, ℕ, zero, suc, List, [], ◌∷◌, ◌++◌, Some, ap, ap₂, refl, subst}
 use Rattle.std.specs.Prelude.{map, remove, slice_get, slice_set}
 use Rattle.instr_table.specs.Reach.{Every}
 use Rattle.vm_machine.specs.Flight.{Pairwise}

@@ -1,14 +1,13 @@
 -- What becomes of the unfinished messages where the ready ones, those in flight, or the events given change.
-use Rattle.std.proofs.Common.{◌≡◌, ◌⊎◌, inl, inr, ℕ, zero, suc, ◌+◌, ◌<◌, ◌≤◌, nat_eq, List, [], ◌∷◌, ◌++◌, length, Option, Some, None, Bool, true, false, if◌then◌else◌, ap, ap₂, refl, sym, ◌∙◌, subst, arith}
-use Rattle.std.specs.Prelude.{map, remove, slice_get, slice_set, ◌||◌}
+use Rattle.std.proofs.Common.{◌≡◌, ℕ, suc, ◌+◌, ◌<◌, ◌≤◌, nat_eq, List, [], ◌∷◌, ◌++◌, length, Bool, true, false, if◌then◌else◌, ap, ap₂, refl, sym, ◌∙◌, arith}
+use Rattle.std.specs.Prelude.{map, ◌||◌}
 use Rattle.std.proofs.lemmas.Bool.Decides.{nat_tests}
 use Rattle.cap_words.specs.Words.{W}
 use Rattle.instr_table.specs.Lane.{Lane as Flying}
 use Rattle.instr_table.specs.Event.{Sent}
 use Rattle.vm_turn.specs.State.{Message}
 use Rattle.vm_turn.specs.Turn.{is_in_flight, without, numbered_from}
-use Rattle.event_queue.specs.Pending.{IsAscending, numbers_from, event_of, without as without_number}
-use Rattle.event_queue.specs.Waiting.{message_of, messages_of, waiting}
+use Rattle.event_queue.specs.Pending.{numbers_from, without as without_number}
 use Rattle.vm_machine.specs.Messages.{is_among, is_unfinished, kept_from, unfinished}
 
 pub differ : (n k : ℕ) → nat_eq n k ≡ false → n ≡ k → ⊥

@@ -1,42 +1,35 @@
 -- A machine after a prepared signal became a message.
-use Rattle.std.proofs.Common.{◌≡◌, ◌⊎◌, inl, inr, ℕ, zero, suc, ◌+◌, ◌<◌, ◌≤◌, nat_eq, List, [], ◌∷◌, ◌++◌, length, Option, Some, None, Bool, true, false, if◌then◌else◌, ap, ap₂, refl, sym, ◌∙◌, subst, arith, length-append, pos}
-use Rattle.std.specs.Prelude.{map, slice_get, ◌||◌, option_map}
+use Rattle.std.proofs.Common.{◌≡◌, inl, inr, ℕ, zero, suc, ◌+◌, ◌<◌, nat_eq, List, [], ◌∷◌, ◌++◌, length, Option, Some, None, Bool, true, false, if◌then◌else◌, ap, refl, sym, ◌∙◌, subst, arith, length-append}
+use Rattle.std.specs.Prelude.{slice_get, ◌||◌, option_map}
 use Rattle.std.proofs.lemmas.Bool.Decides.{nat_tests}
 use Rattle.cap_words.specs.declared.word.Quad.{Quad}
-use Rattle.cap_words.specs.declared.word.Tag.TheVariants.{Ordinary, Actor, Event, SponsorHeld, SponsorSpent}
-use Rattle.cap_words.specs.Words.{W, Fix, undef}
+use Rattle.cap_words.specs.declared.word.Tag.TheVariants.{Actor, Event}
+use Rattle.cap_words.specs.Words.{W, undef}
 use Rattle.cap_words.specs.Store.{Store, opaque_cell, used, cap_place}
-use Rattle.cap_words.specs.Seen.{Seen, Slot, ActorSlot, EventSlot, seen, slot_seen, altered}
+use Rattle.cap_words.specs.Seen.{Seen, Slot, EventSlot, seen, slot_seen, altered}
 use Rattle.cap_words.specs.Frame.{Among, Framed}
 use Rattle.cap_words.proofs.Stores.{opaque_twice}
-use Rattle.cap_words.proofs.Erased.{slot-seen, actor-there, event-there}
+use Rattle.cap_words.proofs.Erased.{slot-seen, actor-there}
 use Rattle.std.proofs.lemmas.List.{length-set}
-use Rattle.quad_memory.specs.declared.cells.EventCell.{EventCell}
 use Rattle.quad_memory.specs.Memory.{Memory}
 use Rattle.quad_memory.specs.Cells.{event_at, event_in}
-use Rattle.quad_memory.proofs.Typed.{at-quad}
-use Rattle.instr_table.specs.Event.{Sent}
 use Rattle.instr_table.specs.Types.{is_sponsor}
 use Rattle.instr_table.specs.Lane.{Lane as Flying}
 use Rattle.instr_table.specs.Reach.{Every}
-use Rattle.vm_sponsor.specs.Ledger.{Ledger, names}
+use Rattle.vm_sponsor.specs.Ledger.{names}
 use Rattle.vm_sponsor.proofs.Framed.{Aside}
-use Rattle.vm_effects.specs.Gathered.{effects_of, sent_words, own_words}
 use Rattle.vm_effects.specs.Links.{words_of}
 use Rattle.vm_effects.proofs.Chains.{chained-among}
 use Rattle.vm_effects.proofs.Records.{own-split, sent_words-read}
-use Rattle.vm_turn.specs.State.{Message, State}
 use Rattle.vm_turn.specs.Actors.{refilled, with_content}
 use Rattle.vm_turn.specs.Turn.{is_in_flight}
 use Rattle.vm_turn.specs.Sound.{message_words, sent_by}
 use Rattle.vm_step.specs.declared.lane.Lane.{Lane}
 use Rattle.vm_step.specs.Flight.{own_at, lane_of, lane_words}
-use Rattle.vm_step.specs.Books.{Books}
-use Rattle.vm_step.specs.Step.{sheet_in}
 use Rattle.event_queue.specs.Pending.{Pending, appended, numbers_from, IsAscending}
 use Rattle.vm_machine.specs.declared.parts.Parts.{Parts}
 use Rattle.vm_machine.specs.Messages.{is_among, is_unfinished, kept_from, unfinished}
-use Rattle.vm_machine.specs.Flight.{flight_of, Flies, Separate, Pairwise}
+use Rattle.vm_machine.specs.Flight.{flight_of, Flies}
 use Rattle.vm_machine.specs.View.{state_of}
 use Rattle.vm_machine.specs.Whole.{Kept, cycles_spent, created_in}
 use Rattle.vm_machine.proofs.Lists.{every-more, every-at, get-map}
@@ -90,7 +83,7 @@ pub flying-message : (s : Store) (sponsors given : List W) (ready : List ℕ) (l
 flying-message s sponsors given ready ls i l h f =
     let at : is_in_flight l.number (flight_of s ls) ≡ true = in_flight-at (flight_of s ls) i (lane_of s l) (get-map (lane_of s) ls i l h) in
     kept-has (is_unfinished ready (flight_of s ls)) 0 given l.number l.event f.numbered
-        (let e : 0 + l.number ≡ l.number = omega arith in ap (is_unfinished ready (flight_of s ls)) e ∙ ap (λ (b : Bool). is_among l.number ready || b) at ∙ or-true (is_among l.number ready))
+    (let e : 0 + l.number ≡ l.number = omega arith in ap (is_unfinished ready (flight_of s ls)) e ∙ ap (λ (b : Bool). is_among l.number ready || b) at ∙ or-true (is_among l.number ready))
 
 -- what the lanes and the books are after an event's content changed
 record Filled (p : Parts) (after : Memory) : Type 0 where
@@ -99,10 +92,10 @@ record Filled (p : Parts) (after : Memory) : Type 0 where
   used_is : used after.store ≡ used p.quads.store
 
 module _ (p : Parts) (k : Kept p) (signal content : W) (after : Memory) (queue : Pending)
-         (seen_is : seen after.store ≡ with_content (seen p.quads.store) signal content) (frame : Framed p.quads.store after.store (signal ∷ []))
-         (absent : event_at p.quads.store signal ≡ None → after ≡ p.quads) (room : after.room ≡ p.quads.room)
-         (queue_is : queue ≡ appended p.queue (signal ∷ [])) (fits : length p.queue.given < p.queue.room)
-         (no_message : Among signal (message_words (state_of p).messages) → ⊥) (not_sent : Every (λ (l : Flying). Among signal (sent_by l) → ⊥) (state_of p).flight) where
+    (seen_is : seen after.store ≡ with_content (seen p.quads.store) signal content) (frame : Framed p.quads.store after.store (signal ∷ []))
+    (absent : event_at p.quads.store signal ≡ None → after ≡ p.quads) (room : after.room ≡ p.quads.room)
+    (queue_is : queue ≡ appended p.queue (signal ∷ [])) (fits : length p.queue.given < p.queue.room)
+    (no_message : Among signal (message_words (state_of p).messages) → ⊥) (not_sent : Every (λ (l : Flying). Among signal (sent_by l) → ⊥) (state_of p).flight) where
   abbrev s : Store
   s = p.quads.store
 
@@ -189,7 +182,7 @@ module _ (p : Parts) (k : Kept p) (signal content : W) (after : Memory) (queue :
     transfers = (let c = ap cycles_spent filling.books.sheet_is in omega (arith, c, k.transfers));
     flying = subst (λ (q : Pending). Every (Flies after.store sponsors q.given q.ready) p.flight.items) (sym queue_is)
         (every-more (Flies after.store sponsors p.queue.given p.queue.ready) (Flies after.store sponsors (p.queue.given ++ signal ∷ []) (p.queue.ready ++ numbers_from (length p.queue.given) (signal ∷ []))) p.flight.items
-          (λ l h. flies-given after.store sponsors p.queue.given p.queue.ready (signal ∷ []) l h) rest.flying);
+        (λ l h. flies-given after.store sponsors p.queue.given p.queue.ready (signal ∷ []) l h) rest.flying);
     apart = rest.apart;
     granted = k.granted;
     some_lanes = k.some_lanes;
@@ -198,13 +191,13 @@ module _ (p : Parts) (k : Kept p) (signal content : W) (after : Memory) (queue :
     flight_room = k.flight_room;
     queue_room = ap (λ (q : Pending). q.room) queue_is ∙ k.queue_room;
     counts = (
-      let g : length queue.given ≡ length p.queue.given + 1 = ap (λ (q : Pending). length q.given) queue_is ∙ length-append p.queue.given (signal ∷ []) in
-      let r : length queue.ready ≡ length p.queue.ready + 1 = ap (λ (q : Pending). length q.ready) queue_is ∙ length-append p.queue.ready (length p.queue.given ∷ []) in
-      omega (arith, k.counts, g, r));
+        let g : length queue.given ≡ length p.queue.given + 1 = ap (λ (q : Pending). length q.given) queue_is ∙ length-append p.queue.given (signal ∷ []) in
+        let r : length queue.ready ≡ length p.queue.ready + 1 = ap (λ (q : Pending). length q.ready) queue_is ∙ length-append p.queue.ready (length p.queue.given ∷ []) in
+        omega (arith, k.counts, g, r));
     given_room = (
-      let g : length queue.given ≡ length p.queue.given + 1 = ap (λ (q : Pending). length q.given) queue_is ∙ length-append p.queue.given (signal ∷ []) in
-      let r : queue.room ≡ p.queue.room = ap (λ (q : Pending). q.room) queue_is in
-      omega (arith, fits, g, r));
+        let g : length queue.given ≡ length p.queue.given + 1 = ap (λ (q : Pending). length q.given) queue_is ∙ length-append p.queue.given (signal ∷ []) in
+        let r : queue.room ≡ p.queue.room = ap (λ (q : Pending). q.room) queue_is in
+        omega (arith, fits, g, r));
     ascending = subst (λ (q : Pending). IsAscending 0 (length q.given) q.ready) (sym queue_is) (ascending-appended p.queue (signal ∷ []) k.ascending);
     journal_room = (let r : queue.room ≡ p.queue.room = ap (λ (q : Pending). q.room) queue_is in omega (arith, k.journal_room, r));
     actors = (let c = ap created_in rest.flight in omega (arith, k.actors, c, filling.used_is));
@@ -219,7 +212,7 @@ module _ (p : Parts) (k : Kept p) (signal content : W) (after : Memory) (queue :
       let sh = filling.books.sheet_is in
       let nu : length queue.given ≡ suc (length p.queue.given) = ap (λ (q : Pending). length q.given) queue_is ∙ length-append p.queue.given (signal ∷ []) ∙ omega arith in
       let me : unfinished queue.given queue.ready (flight_of after.store p.flight.items) ≡ (state_of p).messages ++ record { number = length p.queue.given; event = signal } ∷ [] =
-        ap (λ (q : Pending). unfinished q.given q.ready (flight_of after.store p.flight.items)) queue_is
-        ∙ unfinished-append p.queue.given p.queue.ready (flight_of after.store p.flight.items) (record { event = signal; sponsor = undef; target = undef; content = undef } ∷ [])
-        ∙ ap (λ (ls : List Flying). unfinished p.queue.given p.queue.ready ls ++ record { number = length p.queue.given; event = signal } ∷ []) rest.flight in
+      ap (λ (q : Pending). unfinished q.given q.ready (flight_of after.store p.flight.items)) queue_is
+      ∙ unfinished-append p.queue.given p.queue.ready (flight_of after.store p.flight.items) (record { event = signal; sponsor = undef; target = undef; content = undef } ∷ [])
+      ∙ ap (λ (ls : List Flying). unfinished p.queue.given p.queue.ready ls ++ record { number = length p.queue.given; event = signal } ∷ []) rest.flight in
       λ j. record (state_of p) { store = st j; flight = fl j; messages = me j; sheet = sh j; next_number = nu j }

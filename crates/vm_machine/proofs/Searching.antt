@@ -1,30 +1,25 @@
 -- The search for the message that goes next.
-use Rattle.std.proofs.Common.{◌≡◌, ◌⊎◌, inl, inr, ℕ, zero, suc, ◌+◌, ◌<◌, ◌≤◌, nat_eq, nat_lt, List, [], ◌∷◌, length, Option, Some, None, Bool, true, false, if◌then◌else◌, ap, refl, sym, ◌∙◌, subst, arith}
-use Rattle.std.specs.Prelude.{option_map, is_none, slice_get}
+use Rattle.std.proofs.Common.{◌≡◌, ℕ, ◌<◌, ◌≤◌, nat_eq, nat_lt, List, [], ◌∷◌, length, Option, Some, None, Bool, true, false, if◌then◌else◌, ap, refl, sym, ◌∙◌, subst, arith}
+use Rattle.std.specs.Prelude.{option_map, is_none}
 use Rattle.std.proofs.lemmas.Bool.Decides.{nat_tests}
 use Rattle.std.proofs.lemmas.List.{length-map}
-use Rattle.cap_words.specs.declared.word.Quad.{Quad}
 use Rattle.cap_words.specs.Words.{W, Fix, Rom, Ram, Cap}
 use Rattle.cap_words.specs.Store.{Store}
-use Rattle.cap_words.specs.Seen.{Seen, Slot, SponsorSlot, seen, slot_seen}
-use Rattle.cap_words.specs.Frame.{Among}
+use Rattle.cap_words.specs.Seen.{Slot, seen}
 use Rattle.cap_words.proofs.Erased.{slot-seen}
 use Rattle.cap_words.specs.declared.word.Tag.TheVariants.{SponsorHeld}
 use Rattle.quad_memory.specs.declared.cells.SponsorCell.{SponsorCell}
 use Rattle.quad_memory.specs.Cells.{sponsor_at}
-use Rattle.quad_memory.proofs.Typed.{sponsor-quads, Sponsor, sponsor}
+use Rattle.quad_memory.proofs.Typed.{sponsor-quads}
 use Rattle.instr_table.specs.Types.{opaque_in, look_up, shows_sponsor, is_sponsor}
-use Rattle.instr_table.specs.Lane.{Lane as Flying}
 use Rattle.instr_table.specs.Reach.{Every}
-use Rattle.vm_sponsor.specs.Ledger.{Ledger, names}
-use Rattle.vm_turn.specs.State.{Message, State}
+use Rattle.vm_sponsor.specs.Ledger.{names}
+use Rattle.vm_turn.specs.State.{State}
 use Rattle.vm_turn.specs.Turn.{is_in_flight, first_to_go, dispatchable}
 use Rattle.vm_step.specs.declared.lane.Lane.{Lane}
 use Rattle.vm_step.specs.Flight.{lane_of}
-use Rattle.vm_step.specs.Step.{sheet_in}
-use Rattle.event_queue.specs.Pending.{Pending}
 use Rattle.event_queue.specs.Starts.{first_ready}
-use Rattle.event_queue.specs.Waiting.{message_of, IsListed}
+use Rattle.event_queue.specs.Waiting.{message_of}
 use Rattle.event_queue.proofs.FirstToGo.{first-ready_goes_first}
 use Rattle.vm_machine.specs.declared.parts.Parts.{Parts}
 use Rattle.vm_machine.specs.Messages.{is_among}
@@ -78,8 +73,8 @@ flying-taken s sponsors given ready (l ∷ ls) k h e = by (nat_eq l.number k) re
 pub first-found : (p : Parts) → Kept p → first_to_go (state_of p).store (state_of p).sheet (state_of p).flight (state_of p).messages ≡ option_map (message_of p.queue.given) (first_ready p.quads.store p.queue.given p.queue.ready)
 first-found p k =
     first-ready_goes_first p.quads.store p.sheet (state_of p).flight (state_of p).messages p.queue k.books.belongs
-        (λ w c h. k.books.listed w (cell-sponsor p.quads.store w c h))
-        (stands p.queue (state_of p).flight k.ascending (λ n h. flying-taken p.quads.store (names p.sheet.rows) p.queue.given p.queue.ready p.flight.items n k.flying h))
+    (λ w c h. k.books.listed w (cell-sponsor p.quads.store w c h))
+    (stands p.queue (state_of p).flight k.ascending (λ n h. flying-taken p.quads.store (names p.sheet.rows) p.queue.given p.queue.ready p.flight.items n k.flying h))
 
 -- so the machine's next message is the written turn's, where a lane is free
 pub found-next : (p : Parts) (o : Option ℕ) → Kept p → o ≡ first_ready p.quads.store p.queue.given p.queue.ready → length p.flight.items < p.lanes → option_map (message_of p.queue.given) o ≡ dispatchable (state_of p)

@@ -1,5 +1,5 @@
 -- The ready numbers stand for the messages that are not in flight.
-use Rattle.std.proofs.Common.{◌≡◌, ◌⊎◌, inl, inr, ℕ, zero, suc, ◌+◌, ◌<◌, ◌≤◌, nat_eq, List, [], ◌∷◌, ◌++◌, length, get_or, Option, Some, None, Bool, true, false, if◌then◌else◌, ap, ap₂, refl, sym, ◌∙◌, subst, arith, append_assoc, length-append}
+use Rattle.std.proofs.Common.{◌≡◌, ℕ, suc, ◌+◌, ◌<◌, ◌≤◌, nat_eq, List, [], ◌∷◌, ◌++◌, length, Some, Bool, true, false, if◌then◌else◌, ap, ap₂, refl, sym, ◌∙◌, subst, arith, append_assoc, length-append}
 use Rattle.std.specs.Prelude.{slice_get, ◌||◌}
 use Rattle.std.proofs.lemmas.Bool.Decides.{nat_tests}
 use Rattle.std.proofs.lemmas.Option.{get_or_from_slice_get}
@@ -8,7 +8,7 @@ use Rattle.instr_table.specs.Lane.{Lane as Flying}
 use Rattle.vm_turn.specs.State.{Message}
 use Rattle.vm_turn.specs.Turn.{is_in_flight}
 use Rattle.event_queue.specs.Pending.{Pending, appended, numbers_from, event_of, IsAscending, without as without_number}
-use Rattle.event_queue.specs.Waiting.{message_of, messages_of, waiting, StandsFor}
+use Rattle.event_queue.specs.Waiting.{messages_of, waiting, StandsFor}
 use Rattle.event_queue.proofs.Ascending.{ascending-push, ascending-low}
 use Rattle.vm_machine.specs.Messages.{is_among, is_unfinished, kept_from, unfinished}
 use Rattle.vm_machine.proofs.Messages.{kept-same}
@@ -75,7 +75,7 @@ ready-kept given n (w ∷ ws) (r ∷ rs) a at = by (nat_eq r n) refl (λ b. read
         let x : r ≡ n = grind (arith, nat_tests) in
         let rest : IsAscending (suc n) (suc n + length ws) rs = subst (λ (m : ℕ). IsAscending (suc n) m rs) high (subst (λ (m : ℕ). IsAscending (suc m) (n + length (w ∷ ws)) rs) x a.2) in
         let same : kept_from (λ k. is_among k (r ∷ rs)) (suc n) ws ≡ kept_from (λ k. is_among k rs) (suc n) ws =
-          kept-same (λ k. is_among k (r ∷ rs)) (λ k. is_among k rs) (suc n) ws (λ k l u. (let f : nat_eq r k ≡ false = grind (arith, nat_tests, x, l) in rw f refl)) in
+        kept-same (λ k. is_among k (r ∷ rs)) (λ k. is_among k rs) (suc n) ws (λ k l u. (let f : nat_eq r k ≡ false = grind (arith, nat_tests, x, l) in rw f refl)) in
         ap₂ (λ (m : Message) (ms : List Message). m ∷ ms) (ap₂ (λ (j : ℕ) (v : W). record { number = j; event = v }) (sym x) (sym here ∙ ap (event_of given) (sym x))) (same ∙ one rest)
     by false e one two =
         let d : r ≡ n → ⊥ = λ y. grind (arith, nat_tests) in

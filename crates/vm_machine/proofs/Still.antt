@@ -1,13 +1,11 @@
 -- What a change of the store leaves of a lane.
-use Rattle.std.proofs.Common.{◌≡◌, ℕ, zero, suc, ◌+◌, ◌<◌, ◌≤◌, List, [], ◌∷◌, ◌++◌, length, Option, Some, None, ap, ap₂, refl, sym, ◌∙◌, subst, inl, inr, ◌⊎◌, arith, pos}
-use Rattle.std.specs.Prelude.{map, remove, slice_get, slice_set}
+use Rattle.std.proofs.Common.{◌≡◌, ℕ, zero, suc, ◌≤◌, List, [], ◌∷◌, Some, ap, ap₂, refl, sym, ◌∙◌, subst, arith}
 use Rattle.cap_words.specs.declared.word.Quad.{Quad}
-use Rattle.cap_words.specs.declared.word.Tag.TheVariants.{Actor, Event}
-use Rattle.cap_words.specs.Words.{W, Fix, Rom, Ram, Cap, nil}
-use Rattle.cap_words.specs.Store.{Store, opaque_cell, used, cap_place}
-use Rattle.cap_words.specs.Seen.{Seen, Slot, OpenSlot, ActorSlot, EventSlot, seen, cell_seen, slot_seen, grown}
-use Rattle.cap_words.specs.Frame.{Among, Framed}
-use Rattle.instr_table.specs.Event.{Own, Sent, Behaviour}
+use Rattle.cap_words.specs.Words.{W}
+use Rattle.cap_words.specs.Store.{Store, used}
+use Rattle.cap_words.specs.Seen.{Seen, seen, cell_seen, slot_seen}
+use Rattle.cap_words.specs.Frame.{Among}
+use Rattle.instr_table.specs.Event.{Own, Behaviour}
 use Rattle.instr_table.specs.Lists.{pair_quad, head_in, tail_in}
 use Rattle.instr_table.specs.Lane.{Item, Lane as Flying}
 use Rattle.instr_table.specs.Reach.{Every}
@@ -16,9 +14,8 @@ use Rattle.vm_turn.specs.Actors.{sent_in, sent_at, behaviour_in, behaviour_at}
 use Rattle.vm_turn.specs.Turn.{own_of}
 use Rattle.vm_step.specs.declared.lane.Lane.{Lane}
 use Rattle.vm_step.specs.Stack.{items_from, IsStack}
-use Rattle.vm_step.specs.Flight.{own_at, stack_of, lane_of, lane_words, Held, Aside}
-use Rattle.vm_machine.specs.Flight.{flight_of, Flies, Separate, Pairwise}
-use Rattle.vm_machine.proofs.Lists.{every-both, pairs-more, map-same}
+use Rattle.vm_step.specs.Flight.{own_at, lane_of, lane_words}
+use Rattle.vm_machine.specs.Flight.{flight_of, Flies, Separate}
 
 -- what one lane needs of a change of the store
 pub record Still (s t : Store) (l : Lane) : Type 0 where

@@ -1,39 +1,33 @@
 -- A machine after one of its sponsors was stopped.
-use Rattle.std.proofs.Common.{◌≡◌, ◌⊎◌, inl, inr, ℕ, zero, suc, ◌+◌, ◌≤◌, List, [], ◌∷◌, ◌++◌, length, Option, Some, None, false, ap, ap₂, refl, sym, ◌∙◌, subst, arith}
-use Rattle.std.specs.Prelude.{map, slice_get}
-use Rattle.std.specs.List.{sum_by}
+use Rattle.std.proofs.Common.{◌≡◌, inl, inr, ℕ, ◌+◌, List, length, false, ap, refl, sym, ◌∙◌, subst, arith}
 use Rattle.std.proofs.lemmas.List.{length-map}
-use Rattle.cap_words.specs.declared.word.Quad.{Quad}
-use Rattle.cap_words.specs.declared.word.Tag.TheVariants.{Ordinary, Actor, Event, SponsorHeld, SponsorSpent}
+use Rattle.cap_words.specs.declared.word.Tag.TheVariants.{SponsorHeld, SponsorSpent}
 use Rattle.cap_words.specs.Words.{W, Cap}
-use Rattle.cap_words.specs.Store.{Store, opaque_cell, used, cap_place}
+use Rattle.cap_words.specs.Store.{Store, used, cap_place}
 use Rattle.cap_words.specs.Seen.{Seen, seen, cell_seen, slot_seen}
 use Rattle.cap_words.specs.Frame.{Among, Framed}
 use Rattle.quad_memory.specs.Memory.{Memory}
-use Rattle.quad_memory.specs.Cells.{sponsor_at}
 use Rattle.quad_memory.proofs.Typed.{Sponsor, sponsor, sponsor-quads}
 use Rattle.instr_table.specs.Sheet.{Account, stop, stands_as, Stopped}
 use Rattle.instr_table.specs.Types.{is_sponsor}
-use Rattle.instr_table.specs.Lane.{Lane as Flying}
 use Rattle.instr_table.specs.Reach.{Every}
 use Rattle.vm_sponsor.specs.Ledger.{Ledger, names}
-use Rattle.vm_sponsor.specs.Sheets.{sheet_of, IsThere, Belongs, quads_of}
+use Rattle.vm_sponsor.specs.Sheets.{IsThere, quads_of}
 use Rattle.vm_sponsor.specs.Keeps.{Keeps}
 use Rattle.vm_sponsor.proofs.Plain.{sum-at_account}
-use Rattle.vm_effects.specs.Gathered.{effects_of, IsLinked}
 use Rattle.vm_effects.proofs.Records.{effects-framed}
 use Rattle.vm_effects.proofs.Apart.{own-other}
 use Rattle.vm_step.specs.declared.lane.Lane.{Lane}
-use Rattle.vm_step.specs.Flight.{own_at, lane_of, lane_words}
-use Rattle.vm_step.specs.Books.{Books, held_quads}
+use Rattle.vm_step.specs.Flight.{own_at, lane_words}
+use Rattle.vm_step.specs.Books.{held_quads}
 use Rattle.vm_step.specs.Step.{sheet_in}
 use Rattle.vm_machine.specs.declared.parts.Parts.{Parts}
 use Rattle.vm_machine.specs.Messages.{unfinished}
-use Rattle.vm_machine.specs.Flight.{flight_of, Flies, Separate, Pairwise}
+use Rattle.vm_machine.specs.Flight.{Flies}
 use Rattle.vm_machine.specs.View.{state_of}
 use Rattle.vm_machine.specs.Whole.{Kept, cycles_spent, created_in}
 use Rattle.vm_machine.proofs.Lists.{every-more}
-use Rattle.vm_machine.proofs.Still.{Still, Flown, still}
+use Rattle.vm_machine.proofs.Still.{Flown, still}
 use Rattle.vm_machine.proofs.Left.{Stayed, stayed}
 
 -- where one sponsor's quads alone changed, a lane stays
@@ -66,7 +60,7 @@ stopped-spent : (sheet : List Account) (who : W) → cycles_spent (stop sheet wh
 stopped-spent sheet who = sum-at_account (λ (a : Account). a.cycles.spent) who (stands_as Stopped) sheet refl
 
 module _ (p : Parts) (k : Kept p) (who : W) (named : Among who (names p.sheet.rows)) (after : Memory) (sheet : Ledger) (keeps : Keeps p.quads after p.sheet sheet (quads_of who)) (rows : sheet ≡ p.sheet)
-         (sheet_is : sheet_in after sheet ≡ stop (sheet_in p.quads p.sheet) who) where
+    (sheet_is : sheet_in after sheet ≡ stop (sheet_in p.quads p.sheet) who) where
   abbrev stopped : Parts
   stopped = record p { quads = after; sheet = sheet; stuck = false }
 
@@ -82,7 +76,7 @@ module _ (p : Parts) (k : Kept p) (who : W) (named : Among who (names p.sheet.ro
   rest : Stayed p.quads.store after.store sponsors p.queue.given p.queue.ready p.flight.items
   rest = stayed p.quads.store after.store sponsors p.queue.given p.queue.ready p.flight.items
       (every-more (Flies p.quads.store sponsors p.queue.given p.queue.ready) (Flown p.quads.store after.store sponsors p.queue.given p.queue.ready) p.flight.items
-        (λ l h. sponsor-flown p.quads.store after.store who sponsors p.queue.given p.queue.ready l (k.books.belongs.there who named) keeps.frame keeps.unseen h) k.flying) k.apart
+      (λ l h. sponsor-flown p.quads.store after.store who sponsors p.queue.given p.queue.ready l (k.books.belongs.there who named) keeps.frame keeps.unseen h) k.flying) k.apart
 
   pub kept-stopped : Kept stopped
   kept-stopped = record {

@@ -1,5 +1,5 @@
 -- What a turn comes to after an event took an instruction.
-use Rattle.std.proofs.Common.{◌≡◌, ℕ, zero, suc, ◌+◌, ◌<◌, ◌≤◌, List, [], ◌∷◌, length, Option, Some, None, Bool, true, false, ap, ap₂, refl, sym, ◌∙◌, subst, arith}
+use Rattle.std.proofs.Common.{◌≡◌, ℕ, zero, suc, ◌+◌, ◌<◌, ◌≤◌, List, [], ◌∷◌, length, Option, Some, None, ap, ap₂, refl, sym, ◌∙◌, subst, arith}
 use Rattle.std.specs.Prelude.{slice_get}
 use Rattle.std.proofs.lemmas.List.{length-map}
 use Rattle.cap_words.specs.Words.{W, same_word}
@@ -11,12 +11,11 @@ use Rattle.instr_table.specs.Sheet.{Account, account, short, spend}
 use Rattle.instr_table.specs.Lane.{Lane as Flying, lane_row}
 use Rattle.vm_sponsor.specs.declared.amounts.Amounts.{Amounts}
 use Rattle.vm_turn.specs.declared.journal.Outcome.TheVariants.{Committed, Failed, RanOut as Exhausted}
-use Rattle.vm_turn.specs.declared.journal.Outcome.{Outcome as End}
 use Rattle.vm_turn.specs.declared.journal.Turn.{Turn as Answer}
 use Rattle.vm_turn.specs.declared.journal.Turn.TheVariants.{Stepped, Finished}
 use Rattle.vm_turn.specs.State.{State, root}
 use Rattle.vm_turn.specs.Turn.{entry, go_on, finish, act, charged, step, run_out, out_by, spent_by}
-use Rattle.vm_turn.specs.Sound.{Sound, sent_by, sends}
+use Rattle.vm_turn.specs.Sound.{Sound, sent_by}
 use Rattle.vm_turn.proofs.Sums.{sum-at}
 use Rattle.vm_step.specs.declared.lane.Lane.{Lane}
 use Rattle.vm_step.specs.Flight.{lane_of}

@@ -1,13 +1,12 @@
 -- One turn, put together.
-use Rattle.std.proofs.Common.{◌≡◌, ℕ, ◌%◌, List, [], ◌∷◌, ◌++◌, length, Option, Some, None, Result, Ok, Err, Bool, true, false, ap, refl, sym, ◌∙◌, subst}
+use Rattle.std.proofs.Common.{◌≡◌, ℕ, ◌%◌, List, [], length, Option, Some, None, Result, Ok, Err, Bool, true, ap, refl, sym, ◌∙◌, subst}
 use Rattle.std.specs.Prelude.{slice_get, option_map}
-use Rattle.hum_outside.specs.Outside.{AppendsFront, appended}
+use Rattle.hum_outside.specs.Outside.{appended}
 use Rattle.cap_words.specs.Words.{W}
-use Rattle.instr_table.specs.declared.charge.Quota.{Quota}
 use Rattle.vm_sponsor.specs.declared.amounts.Amounts.{Amounts}
 use Rattle.vm_devices.specs.declared.delivery.WriteFault.{WriteFault}
 use Rattle.vm_turn.specs.declared.journal.Turn.{Turn as Answer}
-use Rattle.vm_turn.specs.State.{State, Message}
+use Rattle.vm_turn.specs.State.{State}
 use Rattle.vm_turn.specs.Actors.{sent_at}
 use Rattle.vm_turn.specs.Turn.{dispatchable, dispatch, device_of, go, unless_spent, turn, step}
 use Rattle.vm_turn.specs.Sound.{Sound}
@@ -16,7 +15,7 @@ use Rattle.event_queue.specs.Pending.{event_of}
 use Rattle.event_queue.specs.Waiting.{message_of}
 use Rattle.vm_machine.specs.declared.parts.Parts.{Parts}
 use Rattle.vm_machine.specs.View.{state_of, unwritten}
-use Rattle.vm_machine.specs.Whole.{Kept, Waits, Whole}
+use Rattle.vm_machine.specs.Whole.{Waits}
 use Rattle.vm_machine.specs.Steps.{TakesOne}
 use Rattle.vm_machine.specs.Turns.{Takes}
 use Rattle.vm_machine.proofs.Searching.{waits-next}
@@ -58,7 +57,7 @@ turn-steps s pick given out h = ap (unless_spent s pick) out ∙ ap (go s pick) 
 pub takes-step : (s t : State) (pick : ℕ) (a : Answer) (before : Option (List ℕ)) → turn s pick ≡ (t, a) → t.output ≡ [] → Takes (turn s pick) (Ok a) s t before before
 takes-step s t pick a before e quiet =
     subst (λ (x : State × Answer). Takes x (Ok a) s t before before) (sym e)
-        ((λ j. record t { output = quiet j }), refl, sym (appended-none before) ∙ ap (appended before) (sym quiet))
+    ((λ j. record t { output = quiet j }), refl, sym (appended-none before) ∙ ap (appended before) (sym quiet))
 
 -- where a message was found the search is not given up
 pub found-loose : (s : State) (b : Bool) (number : ℕ) (given : List W) → (b ≡ true → Waits s) → option_map (message_of given) (Some number) ≡ dispatchable s → b ≡ true → ⊥
@@ -71,12 +70,12 @@ pub dispatch-takes : (p q : Parts) (b : Bool) (t : State) (pick number : ℕ) (o
 dispatch-takes p q b t pick number o r before after same out is found h =
     let dispatched = subst (λ (x : Parts). Takes (dispatch (state_of x) number (sent_at (state_of x).store (event_of x.queue.given number)) (device_of (sent_at (state_of x).store (event_of x.queue.given number)).target)) r (state_of x) t before after) same h in
     subst (λ (x : State × Answer). Takes x r (state_of p) t before after)
-        (sym (turn-dispatches (state_of p) pick number p.queue.given out (subst (λ (x : Option ℕ). option_map (message_of p.queue.given) x ≡ dispatchable (state_of p)) is found)))
-        dispatched
+    (sym (turn-dispatches (state_of p) pick number p.queue.given out (subst (λ (x : Option ℕ). option_map (message_of p.queue.given) x ≡ dispatchable (state_of p)) is found)))
+    dispatched
 
 -- where none was found, what every turn keeps stands after the instruction
 pub takes-one-sound : (grant : Amounts) (s t : State) (pick : ℕ) (a : Answer) (o : Option ℕ) (given : List W) → Sound grant s → s.out_of ≡ None → o ≡ None → option_map (message_of given) o ≡ dispatchable s → TakesOne s pick t a → Sound grant t
 takes-one-sound grant s t pick a o given ok out is found one =
     subst (λ (x : State × Answer). Sound grant x.0)
-        (turn-steps s pick given out (subst (λ (x : Option ℕ). option_map (message_of given) x ≡ dispatchable s) is found) ∙ sym one)
-        (turn-sound grant s ok pick)
+    (turn-steps s pick given out (subst (λ (x : Option ℕ). option_map (message_of given) x ≡ dispatchable s) is found) ∙ sym one)
+    (turn-sound grant s ok pick)

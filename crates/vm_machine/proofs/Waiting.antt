@@ -1,10 +1,9 @@
 -- Where no message can go, none can after an instruction that starts no sponsor.
-use Rattle.std.proofs.Common.{◌≡◌, ◌⊎◌, inl, inr, ℕ, zero, suc, ◌+◌, ◌<◌, ◌≤◌, nat_eq, nat_lt, List, [], ◌∷◌, ◌++◌, length, drop, Option, Some, None, Bool, true, false, if◌then◌else◌, ap, ap₂, refl, sym, ◌∙◌, subst, arith}
-use Rattle.std.specs.Prelude.{ℤ, pos, slice_get, slice_set, not, ◌&&◌}
+use Rattle.std.proofs.Common.{◌≡◌, inl, inr, ℕ, zero, suc, nat_lt, List, [], ◌∷◌, ◌++◌, length, drop, Option, Some, None, Bool, true, false, if◌then◌else◌, ap, refl, sym, ◌∙◌, subst, arith}
+use Rattle.std.specs.Prelude.{pos, slice_get, slice_set, not, ◌&&◌}
 use Rattle.std.specs.Ordering.{int_eq}
-use Rattle.std.proofs.lemmas.Option.{slice_get_within}
-use Rattle.cap_words.specs.Words.{W, Fix, Rom, Ram, Cap, same_word, undef, number_of}
-use Rattle.cap_words.specs.Seen.{Seen, Slot, OpenSlot, ActorSlot, UnbornSlot, EventSlot, SponsorSlot, SpentSlot, slot_seen, grown}
+use Rattle.cap_words.specs.Words.{W, Fix, Rom, Ram, Cap, same_word}
+use Rattle.cap_words.specs.Seen.{Seen, Slot, OpenSlot, ActorSlot, UnbornSlot, EventSlot, SponsorSlot, SpentSlot, grown}
 use Rattle.cap_words.specs.Frame.{Among}
 use Rattle.cap_words.proofs.Places.{get-left}
 use Rattle.instr_table.specs.declared.op.Op.{Op}
@@ -13,14 +12,14 @@ use Rattle.instr_table.specs.declared.charge.Charge.{Charge}
 use Rattle.instr_table.specs.declared.charge.Quota.{Quota}
 use Rattle.instr_table.specs.declared.charge.Quota.TheVariants.{Memory, Events, Cycles}
 use Rattle.instr_table.specs.Code.{fetched}
-use Rattle.instr_table.specs.Lists.{item, pair_quad, next_quad}
+use Rattle.instr_table.specs.Lists.{item, pair_quad}
 use Rattle.instr_table.specs.Types.{is_actor, is_sponsor, is_makeable}
 use Rattle.instr_table.specs.Event.{Own, Effects, Behaviour, Effect, Nothing, Sends, Creates, Assigns, Becomes, Sponsors, Grants, Reclaims, Starts, Stops, has_created}
 use Rattle.instr_table.specs.Making.{MakesNamed, MadeWith, IsOrdinaryCell}
-use Rattle.instr_table.specs.Outcome.{Going, Outcome, Goes, Faults, Commits, Row, does, faults}
-use Rattle.instr_table.specs.Sheet.{Account, Standing, Stopped, no_account, account, at_account, at_amount, amount, held, spend, transfer, reclaim, passes, receives, runs, runs_in, stands_as, stop, sheet_after, with_sponsor, paid}
+use Rattle.instr_table.specs.Outcome.{Going, Outcome, Goes, Faults, Commits, Row}
+use Rattle.instr_table.specs.Sheet.{Account, Stopped, no_account, account, at_account, at_amount, held, spend, transfer, passes, receives, runs, runs_in, stands_as, sheet_after, with_sponsor, paid}
 use Rattle.instr_table.specs.ActorRows.{become_row}
-use Rattle.instr_table.specs.SponsorRows.{grant_of, grantable, kind_of_grant, most_sponsors}
+use Rattle.instr_table.specs.SponsorRows.{grant_of, kind_of_grant, most_sponsors}
 use Rattle.instr_table.specs.Row.{row, row_at}
 use Rattle.instr_table.specs.Lane.{Item, top_at, push_one, push_all, after_going, gone, lane_row, values, Lane as Flying}
 use Rattle.instr_table.specs.Reach.{Every}
@@ -28,7 +27,7 @@ use Rattle.instr_table.proofs.Makings.{row_at-makes}
 use Rattle.vm_turn.specs.State.{State, Message}
 use Rattle.vm_turn.specs.Actors.{sent_in, sent_at, is_idle_in, is_idle}
 use Rattle.vm_turn.specs.Turn.{is_in_flight, can_go, first_to_go, go_on}
-use Rattle.vm_turn.specs.Sound.{Sound, NamesOne, places, message_words, times}
+use Rattle.vm_turn.specs.Sound.{Sound, NamesOne, message_words}
 use Rattle.vm_turn.proofs.Events.{times-among}
 use Rattle.vm_machine.specs.Steps.{is_start, starts}
 use Rattle.vm_machine.specs.Whole.{Waits}
@@ -188,7 +187,7 @@ effect-less rows who (Reclaims v) n =
     let two = transfer one v who Events (held rows v Events) in
     let three = transfer two v who Cycles (held rows v Cycles) in
     less-then rows one three (transfer-less rows v who Memory (held rows v Memory))
-        (less-then one two three (transfer-less one v who Events (held rows v Events)) (transfer-less two v who Cycles (held rows v Cycles)))
+    (less-then one two three (transfer-less one v who Events (held rows v Events)) (transfer-less two v who Cycles (held rows v Cycles)))
 effect-less rows who (Starts v signal) n = absurd n
 effect-less rows who (Stops v) n = less-at v (stands_as Stopped) rows (λ a. (refl, λ h. let x : false ≡ true = h in cc))
 
@@ -309,9 +308,9 @@ waits-on grant s ok i l g at outcome_is quiet w =
     each m a h =
         let same = event-stays s.store l.stack g m.event (taken m.event a) in
         and-less (is_in_flight m.number s.flight) (is_in_flight m.number (slice_set s.flight i (gone s.store l g)))
-            (is_idle s.store (sent_at s.store m.event).target) (is_idle (after_going s.store l.stack g).0 (sent_at (after_going s.store l.stack g).0 m.event).target)
-            (runs s.sheet (sent_at s.store m.event).sponsor) (runs (sheet_after paid_rows l.own.sponsor g.effect) (sent_at (after_going s.store l.stack g).0 m.event).sponsor)
-            (in_flight-set m.number s.flight i l (gone s.store l g) at refl)
-            (λ e. going-less s.store l.stack g made (sent_at s.store m.event).target (ap (λ x. is_idle (after_going s.store l.stack g).0 x.target) (sym same) ∙ e))
-            (λ e. less (sent_at s.store m.event).sponsor (ap (λ x. runs (sheet_after paid_rows l.own.sponsor g.effect) x.sponsor) (sym same) ∙ e))
-            h
+        (is_idle s.store (sent_at s.store m.event).target) (is_idle (after_going s.store l.stack g).0 (sent_at (after_going s.store l.stack g).0 m.event).target)
+        (runs s.sheet (sent_at s.store m.event).sponsor) (runs (sheet_after paid_rows l.own.sponsor g.effect) (sent_at (after_going s.store l.stack g).0 m.event).sponsor)
+        (in_flight-set m.number s.flight i l (gone s.store l g) at refl)
+        (λ e. going-less s.store l.stack g made (sent_at s.store m.event).target (ap (λ x. is_idle (after_going s.store l.stack g).0 x.target) (sym same) ∙ e))
+        (λ e. less (sent_at s.store m.event).sponsor (ap (λ x. runs (sheet_after paid_rows l.own.sponsor g.effect) x.sponsor) (sym same) ∙ e))
+        h

@@ -1,5 +1,5 @@
 -- What is seen of a machine.
-use Rattle.std.specs.Prelude.{◌≡◌, ℕ, ◌+◌, if◌then◌else◌, Bool, true, false, Option, Some, None, Result, Ok, Err}
+use Rattle.std.specs.Prelude.{◌≡◌, ℕ, if◌then◌else◌, Option, Result, Ok, Err}
 use Rattle.cap_words.specs.Words.{W}
 use Rattle.quad_memory.specs.Image.{RomImage}
 use Rattle.quad_memory.specs.Memory.{Memory}

@@ -5,7 +5,7 @@ use Rattle.instr_table.specs.declared.op.Op.{Op}
 use Rattle.instr_table.specs.declared.op.Op.TheVariants.{SponsorStart}
 use Rattle.instr_table.specs.declared.charge.Quota.{Quota}
 use Rattle.instr_table.specs.Sheet.{Account, account, short, spend}
-use Rattle.instr_table.specs.Outcome.{Going, Outcome, Goes, Faults, Commits, Row}
+use Rattle.instr_table.specs.Outcome.{Outcome, Goes, Faults, Commits, Row}
 use Rattle.instr_table.specs.Lane.{Lane as Flying, lane_row}
 use Rattle.vm_turn.specs.State.{State}
 use Rattle.vm_turn.specs.declared.journal.Turn.{Turn as Answer}

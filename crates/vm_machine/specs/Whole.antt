@@ -1,5 +1,5 @@
 -- What the parts of a machine keep.
-use Rattle.std.specs.Prelude.{◌≡◌, ℕ, ◌+◌, ◌*◌, ◌≤◌, true, IsTrue, List, [], ◌∷◌, length, None, vec_len, vec_capacity}
+use Rattle.std.specs.Prelude.{◌≡◌, ℕ, ◌+◌, ◌*◌, ◌≤◌, true, IsTrue, List, length, None, vec_len, vec_capacity}
 use Rattle.std.specs.List.{sum_by}
 use Rattle.cap_words.specs.Store.{used}
 use Rattle.instr_table.specs.Sheet.{Account}

@@ -57,14 +57,14 @@ impl Model for Machine {
     ghost Value = { Shown };
 
     ghost view = { λ m. record {
-        state = state_of m.parts;
-        image = image_of m.parts m.boot;
-        grant = m.parts.grant;
-        seed = m.seed;
-        turns = m.turns;
-        quads = m.parts.quads;
-        sheet = m.parts.sheet;
-        queue = m.parts.queue;
+      state = state_of m.parts;
+      image = image_of m.parts m.boot;
+      grant = m.parts.grant;
+      seed = m.seed;
+      turns = m.turns;
+      quads = m.parts.quads;
+      sheet = m.parts.sheet;
+      queue = m.parts.queue;
     } };
 
     ghost invariant = { λ m. Whole m.parts × Follows m.parts m.boot m.seed m.drawn m.turns };
@@ -138,12 +138,7 @@ impl Machine {
     {
         let out_of = self.parts.out_of;
         let next = next_drawn(self.drawn);
-        let answer = turn(
-            &mut self.parts,
-            &mut self.scratch,
-            next / 65_536,
-            out,
-        )?;
+        let answer = turn(&mut self.parts, &mut self.scratch, next / 65_536, out)?;
         if !is_completed(out_of, &answer) {
             return Ok(answer);
         }

@@ -39,12 +39,7 @@ impl Model for Core {
 
 impl Core {
     /// The machine that the image boots to, under a grant, with 1 to 64 lanes. All memory is taken here: no turn takes any.
-    pub fn boot(
-        alloc: Global,
-        image: &Image,
-        grant: Grant,
-        lanes: u32,
-    ) -> Result<Core, NoMemory>
+    pub fn boot(alloc: Global, image: &Image, grant: Grant, lanes: u32) -> Result<Core, NoMemory>
         requires some_lanes { 1 ≤ lanes }
         requires lanes_limit { lanes ≤ 64 }
         ensures { IfOk result (λ c. c ≡ booted image.now grant lanes) }

@@ -81,8 +81,11 @@ fn a_sponsor_runs_out_and_its_signal_is_told(rt: HostRuntime) -> Result<(), Fail
     assert!(rt; machine.actor_at(0) == Some(Word::cap(6)));
     assert!(rt; machine.actor_at(4).is_none());
     assert!(rt; !machine.in_flight(1));
-    let row = machine.sheet().row(machine.quads(), 1).expect(&rt, "the second sponsor");
-    assert_eq!(rt; row.cycles.spent, 50);
+    let row = machine
+        .sheet()
+        .row(machine.quads(), 1)
+        .expect(&rt, "the second sponsor");
+    assert_eq!(rt; row.spent.cycles, 50);
     Ok(())
 }
 
@@ -123,7 +126,7 @@ fn picks_choose_the_event(rt: HostRuntime) -> Result<(), Fail> {
     let image = workers(&rt, alloc)?;
     let grant = Grant::new(100, 10, 100).expect(&rt, "a grant");
     let mut core = Core::boot(alloc, &image, grant, 3)?;
-    let mut out = MemSink::with_room(alloc, 100, 1, vec![in alloc; 2]?)?;
+    let mut out = MemSink::with_room(alloc, 100, 1, vec![in alloc; 1]?)?;
     take(&mut core, [0; 16].as_slice(), &mut out);
     take(&mut core, [1, 3, 5, 7].as_slice(), &mut out);
     assert!(rt; core.turn_with(0, &mut out) == Err(WriteFault));
@@ -144,12 +147,18 @@ fn a_root_that_ran_out_stays_so(rt: HostRuntime) -> Result<(), Fail> {
     for _ in 0..4 {
         let _turn = machine.turn(&mut out);
     }
-    let spent = Turn::Spent {
-        sponsor: Word::cap(0),
-        kind: Quota::Cycles,
-    };
-    assert!(rt; machine.turn(&mut out) == Ok(spent));
-    assert!(rt; machine.turn(&mut out) == Ok(spent));
+    for _ in 0..2 {
+        let turn = machine.turn(&mut out);
+        assert!(rt;
+            matches!(
+                turn,
+                Ok(Turn::Spent {
+                    kind: Quota::Cycles,
+                    ..
+                })
+            )
+        );
+    }
     assert!(rt; machine.turns() == 5);
     assert!(rt; machine.actor_at(3).is_none());
     Ok(())

@@ -35,11 +35,7 @@ fn instruct(parts: &mut Parts, place: usize) -> StepEnd
     ensures queue { parts.new.queue ≡ parts.old.queue }
     ensures place { length parts.new.flight.items ≡ length parts.old.flight.items }
 {
-    vm_step::step(
-        &mut parts.quads,
-        &mut parts.sheet,
-        &mut parts.flight[place],
-    )
+    vm_step::step(&mut parts.quads, &mut parts.sheet, &mut parts.flight[place])
 }
 
 // Whether the instruction at a code word is `sponsor start`, after which messages can go that could not before.

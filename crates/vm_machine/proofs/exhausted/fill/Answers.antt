@@ -1,15 +1,15 @@
-use Rattle.std.proofs.Common.{◌≡◌, Option, Some, None, true, ap, ap₂, refl, sym, ◌∙◌, subst, inl, [], ◌∷◌}
-use Rattle.std.specs.Prelude.{option_map, is_some, IsSome}
+use Rattle.std.proofs.Common.{◌≡◌, Option, Some, None, true, ap, refl, sym, ◌∙◌, subst, inl, [], ◌∷◌}
+use Rattle.std.specs.Prelude.{option_map, is_some}
 use Rattle.cap_words.specs.declared.word.Tag.TheVariants.{Event}
-use Rattle.cap_words.specs.Words.{W, Cap}
-use Rattle.cap_words.specs.Store.{Store, changed, cell_as, opaque_cell, cap_place}
-use Rattle.cap_words.specs.Seen.{Seen, Slot, OpenSlot, ActorSlot, UnbornSlot, EventSlot, SponsorSlot, SpentSlot, seen, slot_seen, altered}
+use Rattle.cap_words.specs.Words.{W}
+use Rattle.cap_words.specs.Store.{Store, changed, cell_as, cap_place}
+use Rattle.cap_words.specs.Seen.{Slot, OpenSlot, ActorSlot, UnbornSlot, EventSlot, SponsorSlot, SpentSlot, seen, slot_seen}
 use Rattle.cap_words.specs.Frame.{Framed}
 use Rattle.cap_words.proofs.Stores.{named}
 use Rattle.cap_words.proofs.Frames.{framed-changed}
 use Rattle.cap_words.proofs.Erased.{seen-changed, slot-seen, event-there}
 use Rattle.quad_memory.specs.declared.cells.EventCell.{EventCell}
-use Rattle.quad_memory.specs.Memory.{Memory, with_store}
+use Rattle.quad_memory.specs.Memory.{Memory}
 use Rattle.quad_memory.specs.Cells.{event_at, event_in, event_words}
 use Rattle.quad_memory.proofs.Typed.{at-quad}
 use Rattle.vm_turn.specs.Actors.{refilled, with_content}

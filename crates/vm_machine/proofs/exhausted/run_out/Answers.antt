@@ -1,4 +1,4 @@
-use Rattle.std.proofs.Common.{◌≡◌, ℕ, ◌+◌, ◌<◌, length, Option, Some, ap, sym, ◌∙◌, refl, subst, arith, get_or}
+use Rattle.std.proofs.Common.{◌≡◌, ℕ, ◌<◌, length, Option, Some, ap, sym, ◌∙◌, subst, arith}
 use Rattle.std.specs.Prelude.{slice_get}
 use Rattle.cap_words.specs.Words.{W, same_word}
 use Rattle.cap_words.specs.Frame.{Among}
@@ -9,7 +9,7 @@ use Rattle.instr_table.specs.Lane.{Lane as Flying}
 use Rattle.instr_table.specs.Reach.{Every}
 use Rattle.vm_turn.specs.declared.journal.Outcome.TheVariants.{RanOut}
 use Rattle.vm_turn.specs.State.{State, root}
-use Rattle.vm_turn.specs.Turn.{entry, finish, out_by, released, run_out, spent_by}
+use Rattle.vm_turn.specs.Turn.{entry, finish, out_by, released, spent_by}
 use Rattle.vm_turn.specs.Sound.{message_words, sent_by}
 use Rattle.event_queue.specs.Pending.{Pending}
 use Rattle.vm_step.specs.Flight.{lane_of}
@@ -49,7 +49,7 @@ release_any-requires-clause-no_message c = λ w h.
     let sheet = stop (state_of p).sheet c.payer_of-who.result in
     let ends = stopped-failed (state_of p) (state_of c.stop-signal.new.parts) (state_of c.fail-entry.new.parts) c.args.place l sheet (RanOut c.args.kind) c.stop-signal.ensures.state at c.fail-entry.ensures.state in
     subst (λ (x : State). Among w (message_words x.messages) → ⊥) (sym ends)
-        (signal-left p.grant (state_of p) c.requires.whole.sound c.payer_of-who.result w (sym c.stop-signal.ensures.signal ∙ h) c.args.place l sheet (RanOut c.args.kind))
+    (signal-left p.grant (state_of p) c.requires.whole.sound c.payer_of-who.result w (sym c.stop-signal.ensures.signal ∙ h) c.args.place l sheet (RanOut c.args.kind))
 
 pub release_any-requires-clause-not_sent : goal.release_any-requires-clause-not_sent
 release_any-requires-clause-not_sent c = λ w h.
@@ -61,7 +61,7 @@ release_any-requires-clause-not_sent c = λ w h.
     let sheet = stop (state_of p).sheet c.payer_of-who.result in
     let ends = stopped-failed (state_of p) (state_of c.stop-signal.new.parts) (state_of c.fail-entry.new.parts) c.args.place l sheet (RanOut c.args.kind) c.stop-signal.ensures.state at c.fail-entry.ensures.state in
     subst (λ (x : State). Every (λ (k : Flying). Among w (sent_by k) → ⊥) x.flight) (sym ends)
-        (signal-unsent p.grant (state_of p) c.requires.whole.sound c.payer_of-who.result w (sym c.stop-signal.ensures.signal ∙ h) c.args.place l sheet (RanOut c.args.kind))
+    (signal-unsent p.grant (state_of p) c.requires.whole.sound c.payer_of-who.result w (sym c.stop-signal.ensures.signal ∙ h) c.args.place l sheet (RanOut c.args.kind))
 
 pub returns-clause-state : goal.returns-clause-state
 returns-clause-state c = λ l at.
@@ -73,7 +73,7 @@ returns-clause-state c = λ l at.
     let sheet = stop (state_of p).sheet c.payer_of-who.result in
     let ends = stopped-failed (state_of p) (state_of c.stop-signal.new.parts) (state_of c.fail-entry.new.parts) c.args.place l sheet (RanOut c.args.kind) c.stop-signal.ensures.state at c.fail-entry.ensures.state in
     let gone : state_of c.release_any.new.parts ≡ run_by p c.args.place l c.args.kind c.payer_of-who.result =
-      c.release_any.ensures.state ∙ ap (released c.stop-signal.result c.args.kind) ends ∙ ap (λ (o : Option W). released o c.args.kind (failed p c.args.place l c.args.kind c.payer_of-who.result)) c.stop-signal.ensures.signal in
+    c.release_any.ensures.state ∙ ap (released c.stop-signal.result c.args.kind) ends ∙ ap (λ (o : Option W). released o c.args.kind (failed p c.args.place l c.args.kind c.payer_of-who.result)) c.stop-signal.ensures.signal in
     c.end_run.ensures.state ∙ ap (out_by (same_word c.payer_of-who.result root) c.args.kind) gone ∙ ap (λ (w : W). out_by (same_word w root) c.args.kind (run_by p c.args.place l c.args.kind w)) who
   where
     some : {x y : Flying} → Some x ≡ Some y → x ≡ y

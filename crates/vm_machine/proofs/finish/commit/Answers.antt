@@ -1,7 +1,5 @@
-use Rattle.std.proofs.Common.{◌≡◌, ℕ, ◌+◌, ◌<◌, ◌≤◌, ◌∷◌, [], ◌++◌, length, List, Option, Some, None, is_some, true, false, ap, sym, ◌∙◌, refl, subst, arith, pos, vec_len}
-use Rattle.std.specs.Prelude.{slice_get, map, remove, vec_capacity, option_map}
+use Rattle.std.proofs.Common.{◌≡◌, ℕ, ◌∷◌, [], length, List, Option, Some, None, is_some, false, ap, sym, ◌∙◌, refl, subst, arith, pos}
 use Rattle.std.proofs.lemmas.List.{length-map}
-use Rattle.std.proofs.lemmas.Option.{slice_get_within}
 use Rattle.cap_words.specs.Words.{W, Fix, undef}
 use Rattle.cap_words.specs.Seen.{ActorSlot, seen}
 use Rattle.cap_words.specs.Store.{opaque_cell}
@@ -10,7 +8,6 @@ use Rattle.cap_words.specs.Frame.{Framed}
 use Rattle.instr_table.specs.Event.{Behaviour, Made, Sent, has_created}
 use Rattle.instr_table.specs.Lane.{Lane as Flying}
 use Rattle.vm_effects.specs.Links.{walk}
-use Rattle.vm_effects.specs.Actors.{idle_cell, actor_slot}
 use Rattle.vm_effects.specs.Gathered.{effects_of, next_of, made_from, made_at, sent_from, sent_at, sent_words}
 use Rattle.vm_effects.proofs.Chains.{length-walk}
 use Rattle.vm_effects.proofs.Apart.{has_created-committed}
@@ -49,7 +46,7 @@ commit-released-requires-clause-other c =
     let lane = c.remove-lane.result in
     let f = flies-at p c.args.place lane (lane-at p.flight.items c.args.place lane c.requires.place c.remove-lane.ensures.value) c.requires.kept in
     subst (λ (w : W). has_created w (effects_of p.quads.store lane.effects).created ≡ false) (sym c.target_of-actor.ensures)
-        (has_created-committed p.quads.store lane.effects f.held.linked (own_at (seen p.quads.store) lane.event).actor f.busy.0 f.busy.1 (Fix (pos lane.number)) f.busy.2)
+    (has_created-committed p.quads.store lane.effects f.held.linked (own_at (seen p.quads.store) lane.event).actor f.busy.0 f.busy.1 (Fix (pos lane.number)) f.busy.2)
 
 pub append_all-requires : goal.append_all-requires
 append_all-requires c =
@@ -88,13 +85,13 @@ returns-clause-kept c =
     let next = next_of lane.effects in
     let at = own-seen p c.args.place lane e c.requires.kept t.store c.target_of-actor.result next c.target_of-actor.ensures c.commit-released.ensures.seen in
     kept-committed p c.args.place lane e c.requires.kept t c.make_idle.new.quads r.actors r.first_actor c.remove-lane.new.self c.enter_all.new.roll c.append_all.new.queue c.note.new.journal (code_after next b.0) (state_after next b.1)
-        (subst (λ (w : W). Framed p.quads.store t.store (w ∷ [])) c.target_of-actor.ensures c.commit-released.ensures.frame)
-        (at ∙ resting-slot next b.0 b.1 (Fix (pos lane.number)) (seen p.quads.store) (own_at (seen p.quads.store) lane.event).actor)
-        c.commit-released.ensures.room c.commit-released.ensures.created c.commit-released.ensures.created_linked c.make_idle.ensures.frame c.make_idle.ensures.seen c.make_idle.ensures.room
-        (c.append_all.ensures ∙ ap (λ (l : List Sent). appended p.queue (sent_words l)) c.commit-released.ensures.sent)
-        (c.requires.fits (lane_of p.quads.store lane) (get-map (lane_of p.quads.store) p.flight.items c.args.place lane e))
-        c.enter_all.ensures.items c.enter_all.ensures.capacity
-        c.remove-lane.ensures.items (omega (arith, c.remove-lane.ensures.len, c.requires.place)) (omega (arith, c.remove-lane.ensures.capacity)) c.note.ensures.items c.note.ensures.len c.note.ensures.capacity
+    (subst (λ (w : W). Framed p.quads.store t.store (w ∷ [])) c.target_of-actor.ensures c.commit-released.ensures.frame)
+    (at ∙ resting-slot next b.0 b.1 (Fix (pos lane.number)) (seen p.quads.store) (own_at (seen p.quads.store) lane.event).actor)
+    c.commit-released.ensures.room c.commit-released.ensures.created c.commit-released.ensures.created_linked c.make_idle.ensures.frame c.make_idle.ensures.seen c.make_idle.ensures.room
+    (c.append_all.ensures ∙ ap (λ (l : List Sent). appended p.queue (sent_words l)) c.commit-released.ensures.sent)
+    (c.requires.fits (lane_of p.quads.store lane) (get-map (lane_of p.quads.store) p.flight.items c.args.place lane e))
+    c.enter_all.ensures.items c.enter_all.ensures.capacity
+    c.remove-lane.ensures.items (omega (arith, c.remove-lane.ensures.len, c.requires.place)) (omega (arith, c.remove-lane.ensures.capacity)) c.note.ensures.items c.note.ensures.len c.note.ensures.capacity
 
 pub returns-clause-state : goal.returns-clause-state
 returns-clause-state c = λ l h.
@@ -108,14 +105,14 @@ returns-clause-state c = λ l h.
     let at = own-seen p c.args.place lane e c.requires.kept t.store c.target_of-actor.result next c.target_of-actor.ensures c.commit-released.ensures.seen in
     let same : lane_of p.quads.store lane ≡ l = some (sym (get-map (lane_of p.quads.store) p.flight.items c.args.place lane e) ∙ h) in
     state-committed p c.args.place lane e c.requires.kept t c.make_idle.new.quads r.actors r.first_actor c.remove-lane.new.self c.enter_all.new.roll c.append_all.new.queue c.note.new.journal (code_after next b.0) (state_after next b.1)
-        (subst (λ (w : W). Framed p.quads.store t.store (w ∷ [])) c.target_of-actor.ensures c.commit-released.ensures.frame)
-        (at ∙ resting-slot next b.0 b.1 (Fix (pos lane.number)) (seen p.quads.store) (own_at (seen p.quads.store) lane.event).actor)
-        c.commit-released.ensures.room c.commit-released.ensures.created c.commit-released.ensures.created_linked c.make_idle.ensures.frame c.make_idle.ensures.seen c.make_idle.ensures.room
-        (c.append_all.ensures ∙ ap (λ (l : List Sent). appended p.queue (sent_words l)) c.commit-released.ensures.sent)
-        (c.requires.fits (lane_of p.quads.store lane) (get-map (lane_of p.quads.store) p.flight.items c.args.place lane e))
-        c.enter_all.ensures.items c.enter_all.ensures.capacity
-        c.remove-lane.ensures.items (omega (arith, c.remove-lane.ensures.len, c.requires.place)) (omega (arith, c.remove-lane.ensures.capacity)) c.note.ensures.items c.note.ensures.len c.note.ensures.capacity
-        next (slot-after next b.0 b.1) refl
+    (subst (λ (w : W). Framed p.quads.store t.store (w ∷ [])) c.target_of-actor.ensures c.commit-released.ensures.frame)
+    (at ∙ resting-slot next b.0 b.1 (Fix (pos lane.number)) (seen p.quads.store) (own_at (seen p.quads.store) lane.event).actor)
+    c.commit-released.ensures.room c.commit-released.ensures.created c.commit-released.ensures.created_linked c.make_idle.ensures.frame c.make_idle.ensures.seen c.make_idle.ensures.room
+    (c.append_all.ensures ∙ ap (λ (l : List Sent). appended p.queue (sent_words l)) c.commit-released.ensures.sent)
+    (c.requires.fits (lane_of p.quads.store lane) (get-map (lane_of p.quads.store) p.flight.items c.args.place lane e))
+    c.enter_all.ensures.items c.enter_all.ensures.capacity
+    c.remove-lane.ensures.items (omega (arith, c.remove-lane.ensures.len, c.requires.place)) (omega (arith, c.remove-lane.ensures.capacity)) c.note.ensures.items c.note.ensures.len c.note.ensures.capacity
+    next (slot-after next b.0 b.1) refl
     ∙ ap (λ (x : Flying). finish (state_of p) c.args.place x (state_of p).sheet x.effects Committed) same
   where
     some : {x y : Flying} → Some x ≡ Some y → x ≡ y

@@ -1,7 +1,5 @@
-use Rattle.std.proofs.Common.{◌≡◌, ℕ, ◌+◌, ◌<◌, ◌≤◌, ◌∷◌, [], ◌++◌, length, List, Option, Some, None, is_some, true, ap, sym, ◌∙◌, refl, subst, arith, pos, vec_len}
-use Rattle.std.specs.Prelude.{slice_get, map, remove, vec_capacity}
-use Rattle.cap_words.specs.Words.{W, Fix, undef}
-use Rattle.cap_words.specs.Seen.{seen}
+use Rattle.std.proofs.Common.{◌≡◌, ℕ, ◌∷◌, [], Option, Some, None, is_some, ap, sym, ◌∙◌, refl, subst, arith}
+use Rattle.cap_words.specs.Words.{W}
 use Rattle.cap_words.specs.Frame.{Framed}
 use Rattle.instr_table.specs.Event.{no_effects}
 use Rattle.instr_table.specs.Lane.{Lane as Flying}
@@ -32,9 +30,9 @@ returns-clause-kept c =
     let e = lane-at p.flight.items c.args.place lane c.requires.place c.remove-lane.ensures.value in
     let b = (flies-at p c.args.place lane e c.requires.kept).busy in
     kept-failed p c.args.place lane e c.requires.kept c.drop_all.new.quads c.remove-lane.new.self c.note.new.journal c.args.outcome b.0 b.1
-        (subst (λ (w : W). Framed p.quads.store c.drop_all.new.quads.store (w ∷ [])) c.target_of-actor.ensures c.drop_all.ensures.frame)
-        (own-seen p c.args.place lane e c.requires.kept c.drop_all.new.quads.store c.target_of-actor.result None c.target_of-actor.ensures c.drop_all.ensures.seen)
-        c.drop_all.ensures.room c.remove-lane.ensures.items (omega (arith, c.remove-lane.ensures.len, c.requires.place)) (omega (arith, c.remove-lane.ensures.capacity)) c.note.ensures.items c.note.ensures.len c.note.ensures.capacity
+    (subst (λ (w : W). Framed p.quads.store c.drop_all.new.quads.store (w ∷ [])) c.target_of-actor.ensures c.drop_all.ensures.frame)
+    (own-seen p c.args.place lane e c.requires.kept c.drop_all.new.quads.store c.target_of-actor.result None c.target_of-actor.ensures c.drop_all.ensures.seen)
+    c.drop_all.ensures.room c.remove-lane.ensures.items (omega (arith, c.remove-lane.ensures.len, c.requires.place)) (omega (arith, c.remove-lane.ensures.capacity)) c.note.ensures.items c.note.ensures.len c.note.ensures.capacity
 
 pub returns-clause-state : goal.returns-clause-state
 returns-clause-state c = λ l h.
@@ -44,9 +42,9 @@ returns-clause-state c = λ l h.
     let b = (flies-at p c.args.place lane e c.requires.kept).busy in
     let same : lane_of p.quads.store lane ≡ l = some (sym (get-map (lane_of p.quads.store) p.flight.items c.args.place lane e) ∙ h) in
     state-failed p c.args.place lane e c.requires.kept c.drop_all.new.quads c.remove-lane.new.self c.note.new.journal c.args.outcome b.0 b.1
-        (subst (λ (w : W). Framed p.quads.store c.drop_all.new.quads.store (w ∷ [])) c.target_of-actor.ensures c.drop_all.ensures.frame)
-        (own-seen p c.args.place lane e c.requires.kept c.drop_all.new.quads.store c.target_of-actor.result None c.target_of-actor.ensures c.drop_all.ensures.seen)
-        c.drop_all.ensures.room c.remove-lane.ensures.items (omega (arith, c.remove-lane.ensures.len, c.requires.place)) (omega (arith, c.remove-lane.ensures.capacity)) c.note.ensures.items c.note.ensures.len c.note.ensures.capacity refl refl
+    (subst (λ (w : W). Framed p.quads.store c.drop_all.new.quads.store (w ∷ [])) c.target_of-actor.ensures c.drop_all.ensures.frame)
+    (own-seen p c.args.place lane e c.requires.kept c.drop_all.new.quads.store c.target_of-actor.result None c.target_of-actor.ensures c.drop_all.ensures.seen)
+    c.drop_all.ensures.room c.remove-lane.ensures.items (omega (arith, c.remove-lane.ensures.len, c.requires.place)) (omega (arith, c.remove-lane.ensures.capacity)) c.note.ensures.items c.note.ensures.len c.note.ensures.capacity refl refl
     ∙ ap (λ (x : Flying). finish (state_of p) c.args.place x (state_of p).sheet no_effects c.args.outcome) same
   where
     some : {x y : Flying} → Some x ≡ Some y → x ≡ y

@@ -1,4 +1,4 @@
-use Rattle.std.proofs.Common.{◌≡◌, ◌∙◌, Bool, ap, sym, arith}
+use Rattle.std.proofs.Common.{◌∙◌, Bool, ap, arith}
 use Rattle.std.specs.Prelude.{not}
 use Rattle.vm_machine.proofs.Searching.{kept-stuck, found-next, found-none}
 use Rattle.vm_machine.proofs.ready.next_ready.Goals as goal

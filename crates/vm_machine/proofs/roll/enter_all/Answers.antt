@@ -1,4 +1,4 @@
-use Rattle.std.proofs.Common.{arith, ◌≡◌, ℕ, suc, ◌+◌, ◌-◌, ◌<◌, ◌≤◌, ◌∷◌, [], ◌++◌, List, length, refl, sym, ◌∙◌, ap, subst, append_assoc, vec_len, vec_capacity}
+use Rattle.std.proofs.Common.{arith, ◌≡◌, ℕ, suc, ◌-◌, ◌∷◌, [], ◌++◌, List, refl, sym, ◌∙◌, ap, subst, append_assoc}
 use Rattle.cap_words.specs.declared.word.Tag.TheVariants.{Actor}
 use Rattle.cap_words.specs.Words.{W}
 use Rattle.cap_words.specs.Store.{opaque_cell}
@@ -21,8 +21,7 @@ loop-preserved c =
     let more : v.0 ≡ suc k = omega (arith, v.1, c.loop-test.true) in
     let whole = c.args.roll.now.items ++ walk look c.args.count c.args.first in
     let before = subst (λ (n : ℕ). c.loop.roll.items ++ walk look n c.loop.actor ≡ whole) more v.2 in
-    let after = subst (λ (w : W). c.loop.roll.items ++ c.loop.actor ∷ walk look k w ≡ whole) (sym c.link_of-actor.ensures) before in
-    (
+    let after = subst (λ (w : W). c.loop.roll.items ++ c.loop.actor ∷ walk look k w ≡ whole) (sym c.link_of-actor.ensures) before in (
       k,
       omega (arith, v.1, c.loop-test.true),
       ap (λ (l : List W). l ++ walk look k c.link_of-actor.result) c.enter.ensures.items ∙ append_assoc c.loop.roll.items (c.loop.actor ∷ []) (walk look k c.link_of-actor.result) ∙ after,

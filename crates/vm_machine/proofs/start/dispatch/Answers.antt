@@ -1,4 +1,4 @@
-use Rattle.std.proofs.Common.{◌≡◌, List, Option, sym, ◌∙◌, subst, refl}
+use Rattle.std.proofs.Common.{sym, ◌∙◌, subst, refl}
 use Rattle.vm_turn.specs.State.{State}
 use Rattle.vm_turn.specs.declared.journal.Turn.{Turn as Answer}
 use Rattle.vm_turn.specs.Actors.{sent_at}

@@ -1,10 +1,5 @@
-use Rattle.std.proofs.Common.{◌≡◌, ◌∙◌, ◌+◌, ◌≤◌, ℕ, Some, ap, sym, refl, subst, arith}
+use Rattle.std.proofs.Common.{refl, arith}
 use Rattle.std.specs.Vec.{with_item}
-use Rattle.instr_table.specs.Lane.{Lane as Flying}
-use Rattle.vm_step.specs.Flight.{lane_of}
-use Rattle.vm_machine.specs.Steps.{StepsTo}
-use Rattle.vm_machine.specs.View.{state_of}
-use Rattle.vm_machine.proofs.Lists.{get-map}
 use Rattle.vm_machine.proofs.Ended.{lane-at, flies-at}
 use Rattle.vm_machine.proofs.Instructed.{instructed-is, instructed-at, few-transfers}
 use Rattle.vm_machine.proofs.turn.instruct.Goals as goal

@@ -1,12 +1,9 @@
-use Rattle.std.proofs.Common.{◌≡◌, ℕ, ◌+◌, ◌<◌, ◌≤◌, length, List, Option, Some, true, false, ap, sym, ◌∙◌, refl, subst, arith}
+use Rattle.std.proofs.Common.{◌≡◌, ℕ, ◌<◌, true, false, ap, sym, ◌∙◌, subst}
 use Rattle.std.specs.Prelude.{slice_get}
-use Rattle.instr_table.specs.Sheet.{Account}
-use Rattle.instr_table.specs.Lane.{Lane as Flying}
 use Rattle.vm_turn.specs.declared.journal.Outcome.TheVariants.{Committed, Failed}
-use Rattle.vm_turn.specs.declared.journal.Turn.{Turn as Answer}
 use Rattle.vm_turn.specs.declared.journal.Turn.TheVariants.{Stepped, Finished}
 use Rattle.vm_turn.specs.State.{State}
-use Rattle.vm_turn.specs.Turn.{entry, step}
+use Rattle.vm_turn.specs.Turn.{entry}
 use Rattle.instr_table.specs.Code.{fetched}
 use Rattle.vm_machine.specs.Steps.{starts}
 use Rattle.vm_machine.specs.View.{state_of}
@@ -46,7 +43,7 @@ returns-in-Going-clause-waits c = λ h.
     let b = sym c.instruct-end.ensures.stuck ∙ h in
     let quiet = c.loosen.ensures.stuck b l.0 (ap (λ (y : State). slice_get y.flight i) (sym c.loosen.ensures.state) ∙ l.1) in
     subst (λ (y : State). Waits y) (sym x.state)
-        (waits-on p.grant (state_of p) c.loosen.ensures.whole.sound i l.0 x.going l.1 x.outcome (subst (λ (y : State). starts (fetched y.store l.0.code) ≡ false) (sym c.loosen.ensures.state) quiet) (c.loosen.ensures.whole.waits b))
+    (waits-on p.grant (state_of p) c.loosen.ensures.whole.sound i l.0 x.going l.1 x.outcome (subst (λ (y : State). starts (fetched y.store l.0.code) ≡ false) (sym c.loosen.ensures.state) quiet) (c.loosen.ensures.whole.waits b))
 
 pub returns-in-Going-clause-state : goal.returns-in-Going-clause-state
 returns-in-Going-clause-state c = λ l h.

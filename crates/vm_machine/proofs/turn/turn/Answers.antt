@@ -1,4 +1,4 @@
-use Rattle.std.proofs.Common.{◌≡◌, ℕ, Option, Some, None, Bool, true, ap, sym, ◌∙◌, subst}
+use Rattle.std.proofs.Common.{◌≡◌, ℕ, Option, ap, sym, ◌∙◌, subst}
 use Rattle.std.specs.Prelude.{option_map}
 use Rattle.vm_turn.specs.State.{State}
 use Rattle.vm_turn.specs.Turn.{dispatchable}
@@ -15,7 +15,7 @@ use Rattle.vm_machine.proofs.turn.turn.Goals as goal
 pub returns-in-Some-next_ready-clause-turn : goal.returns-in-Some-next_ready-clause-turn
 returns-in-Some-next_ready-clause-turn g c =
     dispatch-takes c.args.parts.now c.next_ready.new.parts c.next_ready.new.parts.stuck (state_of c.dispatch.new.parts) c.args.pick c.in-Some-next_ready.number c.next_ready.result c.dispatch.result (g.K.Sink.written c.args.out.now) (g.K.Sink.written c.dispatch.new.out)
-        c.next_ready.ensures.same c.in_default.is c.in-Some-next_ready.is c.next_ready.ensures.found c.dispatch.ensures.turn
+    c.next_ready.ensures.same c.in_default.is c.in-Some-next_ready.is c.next_ready.ensures.found c.dispatch.ensures.turn
 
 pub returns-in-Some-next_ready-clause-whole : goal.returns-in-Some-next_ready-clause-whole
 returns-in-Some-next_ready-clause-whole g c =
@@ -39,6 +39,6 @@ returns-in-None-clause-whole g c =
       kept = c.take_one.ensures.kept;
       sound = subst (λ (x : Amounts). Sound x (state_of r)) (sym (c.take_one.ensures.grant ∙ ap (λ (x : Parts). x.grant) c.next_ready.ensures.same))
           (takes-one-sound p.grant (state_of p) (state_of r) c.args.pick c.take_one.result c.next_ready.result p.queue.given c.requires.whole.sound c.in_default.is c.in-None.is c.next_ready.ensures.found
-            (subst (λ (x : State). TakesOne x c.args.pick (state_of r) c.take_one.result) c.next_ready.ensures.state c.take_one.ensures.turn));
+          (subst (λ (x : State). TakesOne x c.args.pick (state_of r) c.take_one.result) c.next_ready.ensures.state c.take_one.ensures.turn));
       waits = c.take_one.ensures.waits;
     }

@@ -1,4 +1,4 @@
-use Rattle.std.proofs.Common.{ℕ, ◌+◌, length, ap, arith}
+use Rattle.std.proofs.Common.{length, ap, arith}
 use Rattle.vm_machine.specs.Machine.{Machine}
 use Rattle.vm_sponsor.specs.Ledger.{names}
 use Rattle.vm_machine.proofs.Counting.{count-unfinished}

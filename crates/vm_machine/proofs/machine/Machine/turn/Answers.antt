@@ -1,13 +1,15 @@
-use Rattle.std.proofs.Common.{ℕ, ◌+◌, ◌/◌, ap, sym, ◌∙◌, Ok, arith}
+use Rattle.std.proofs.Common.{◌/◌, ap, sym, ◌∙◌, Ok, arith}
 use Rattle.vm_machine.specs.Machine.{Machine}
 use Rattle.vm_machine.proofs.Continued.{follows-on, follows-resting, image-same, lanes-same, few-turns}
 use Rattle.vm_machine.proofs.machine.Machine.turn.Goals as goal
 
 pub invariant_of-self-then-not-is_completed : goal.invariant_of-self-then-not-is_completed
 invariant_of-self-then-not-is_completed g c =
-    let m = c.self.inside in
-    (c.in_ok-answer.ensures.whole, follows-resting m.parts c.turn.new.parts m.boot m.seed m.drawn m.turns (c.next_drawn-next.result / 65536) c.in_ok-answer.answer (g.K.Sink.written c.args.out.now) (g.K.Sink.written c.turn.new.out)
-        c.in_ok-answer.ensures.grant c.in_ok-answer.ensures.turn (sym c.is_completed.ensures ∙ c.if-not-is_completed.true) c.self.invariant.1)
+    let m = c.self.inside in (
+      c.in_ok-answer.ensures.whole,
+      follows-resting m.parts c.turn.new.parts m.boot m.seed m.drawn m.turns (c.next_drawn-next.result / 65536) c.in_ok-answer.answer (g.K.Sink.written c.args.out.now) (g.K.Sink.written c.turn.new.out)
+          c.in_ok-answer.ensures.grant c.in_ok-answer.ensures.turn (sym c.is_completed.ensures ∙ c.if-not-is_completed.true) c.self.invariant.1,
+    )
 
 pub returns-then-not-is_completed-clause-image : goal.returns-then-not-is_completed-clause-image
 returns-then-not-is_completed-clause-image g c =
@@ -29,9 +31,11 @@ overflow_add-self g c =
 
 pub invariant_of-self-2 : goal.invariant_of-self-2
 invariant_of-self-2 g c =
-    let m = c.self.inside in
-    (c.in_ok-answer.ensures.whole, follows-on m.parts c.turn.new.parts m.boot m.seed m.drawn m.turns c.next_drawn-next.result c.in_ok-answer.answer (g.K.Sink.written c.args.out.now) (g.K.Sink.written c.turn.new.out)
-        c.next_drawn-next.ensures c.in_ok-answer.ensures.grant c.in_ok-answer.ensures.turn (sym c.is_completed.ensures ∙ c.if-not-is_completed.false) c.self.invariant.1)
+    let m = c.self.inside in (
+      c.in_ok-answer.ensures.whole,
+      follows-on m.parts c.turn.new.parts m.boot m.seed m.drawn m.turns c.next_drawn-next.result c.in_ok-answer.answer (g.K.Sink.written c.args.out.now) (g.K.Sink.written c.turn.new.out)
+          c.next_drawn-next.ensures c.in_ok-answer.ensures.grant c.in_ok-answer.ensures.turn (sym c.is_completed.ensures ∙ c.if-not-is_completed.false) c.self.invariant.1,
+    )
 
 pub returns-clause-image : goal.returns-clause-image
 returns-clause-image g c =
