@@ -1,0 +1,22 @@
+use Rattle.vm_machine.proofs.Booting.{whole-booted, state-booted}
+use Rattle.vm_machine.proofs.boot.boot.Goals as goal
+
+pub returns-clause-whole : goal.returns-clause-whole
+returns-clause-whole c =
+    whole-booted
+    c.args.image.now c.args.grant c.args.lanes c.memory-room.result c.events-messages.result c.boot.result c.take_actors-words.result c.in_ok-quads.quads c.with_root.new.quads c.take_actors-words.new.quads
+    c.in_ok-sheet.sheet c.in_ok-queue.queue c.in_ok-roll.roll c.in_ok-flight.flight c.in_ok-journal.journal
+    c.memory-room.ensures.value c.memory-room.ensures.limit c.events-messages.ensures.value c.events-messages.ensures.limit c.boot.ensures.value c.take_actors-words.ensures.words c.requires.some_lanes c.requires.lanes_limit
+    c.in_ok-quads.ensures c.in_ok-sheet.ensures.sheet c.in_ok-sheet.ensures.belongs c.in_ok-sheet.ensures.room c.in_ok-sheet.ensures.transfers c.in_ok-sheet.ensures.seen c.with_root.ensures.quads_room
+    c.take_actors-words.ensures.seen c.take_actors-words.ensures.frame c.take_actors-words.ensures.room c.in_ok-queue.ensures c.in_ok-roll.ensures.items c.in_ok-roll.ensures.capacity
+    c.in_ok-flight.ensures.items c.in_ok-flight.ensures.len c.in_ok-flight.ensures.capacity c.in_ok-journal.ensures.items c.in_ok-journal.ensures.capacity
+
+pub returns-clause-state : goal.returns-clause-state
+returns-clause-state c =
+    state-booted
+    c.args.image.now c.args.grant c.args.lanes c.memory-room.result c.events-messages.result c.boot.result c.take_actors-words.result c.in_ok-quads.quads c.with_root.new.quads c.take_actors-words.new.quads
+    c.in_ok-sheet.sheet c.in_ok-queue.queue c.in_ok-roll.roll c.in_ok-flight.flight c.in_ok-journal.journal
+    c.memory-room.ensures.value c.memory-room.ensures.limit c.events-messages.ensures.value c.events-messages.ensures.limit c.boot.ensures.value c.take_actors-words.ensures.words c.requires.some_lanes c.requires.lanes_limit
+    c.in_ok-quads.ensures c.in_ok-sheet.ensures.sheet c.in_ok-sheet.ensures.belongs c.in_ok-sheet.ensures.room c.in_ok-sheet.ensures.transfers c.in_ok-sheet.ensures.seen c.with_root.ensures.quads_room
+    c.take_actors-words.ensures.seen c.take_actors-words.ensures.frame c.take_actors-words.ensures.room c.in_ok-queue.ensures c.in_ok-roll.ensures.items c.in_ok-roll.ensures.capacity
+    c.in_ok-flight.ensures.items c.in_ok-flight.ensures.len c.in_ok-flight.ensures.capacity c.in_ok-journal.ensures.items c.in_ok-journal.ensures.capacity
