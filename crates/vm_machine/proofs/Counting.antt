@@ -4,6 +4,7 @@ use Rattle.std.proofs.lemmas.Bool.Decides.{nat_tests}
 use Rattle.std.proofs.lemmas.Option.{slice_get_within}
 use Rattle.cap_words.specs.Words.{W}
 use Rattle.cap_words.specs.Store.{Store}
+use Rattle.instr_table.specs.Lane.{Lane as Flying}
 use Rattle.instr_table.specs.Reach.{Every}
 use Rattle.vm_step.specs.declared.lane.Lane.{Lane}
 use Rattle.vm_turn.specs.State.{Message}
@@ -84,3 +85,8 @@ count-unfinished s sponsors given ready (l ∷ ls) h a r =
     (let e : nat_eq l.number l.number ≡ true = itself l.number in rw e (or-true (is_among l.number ready))) in
     let m = count-unfinished s sponsors given ready ls h.1 a.1 r in
     omega (arith, e, m)
+
+-- no message in flight is ready
+pub none-ready : (s : Store) (sponsors given : List W) (ready : List ℕ) (ls : List Lane) → Every (Flies s sponsors given ready) ls → Every (λ (l : Flying). is_among l.number ready ≡ false) (flight_of s ls)
+none-ready s sponsors given ready [] h = tt
+none-ready s sponsors given ready (l ∷ ls) h = (h.0.taken, none-ready s sponsors given ready ls h.1)

@@ -47,6 +47,7 @@ pub(crate) fn boot(
     ensures state { IfOk result (λ p. state_of p ≡ booted image.now grant lanes) }
     ensures grant { IfOk result (λ p. p.grant ≡ grant) }
     ensures rom { IfOk result (λ p. p.quads.store.rom ≡ image.now.cells) }
+    ensures room { IfOk result (λ p. p.quads.room ≡ grant.memory + 16) }
 {
     let room = grant.memory() + 16;
     let messages = grant.events() + 1;

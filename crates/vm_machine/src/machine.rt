@@ -4,13 +4,17 @@ ghost use Rattle.std.specs.Prelude.{◌≡◌, ◌+◌, ◌*◌, ◌≤◌, ◌<
 ghost use Rattle.cap_words.specs.Store.{Store};
 ghost use Rattle.cap_words.specs.Seen.{seen};
 ghost use Rattle.hum_outside.specs.Outside.{HasCause};
+ghost use Rattle.instr_table.specs.Lane.{Lane as Flying};
+ghost use Rattle.instr_table.specs.Reach.{Every};
+ghost use Rattle.vm_sponsor.specs.Sheets.{Belongs};
+ghost use Rattle.event_queue.specs.Pending.{IsAscending};
 ghost use Rattle.vm_step.specs.Step.{sheet_in};
 ghost use Rattle.vm_turn.specs.Boot.{booted};
 ghost use Rattle.vm_turn.specs.Run.{drawn, drawn_after, pick_of, not_rest, unless_out};
 ghost use Rattle.vm_turn.specs.Turn.{is_in_flight, turn};
 ghost use Rattle.vm_machine.specs.Flight.{flight_of};
 ghost use Rattle.vm_machine.specs.Machine.{drawn_run, turns_by};
-ghost use Rattle.vm_machine.specs.Messages.{unfinished};
+ghost use Rattle.vm_machine.specs.Messages.{is_among, unfinished};
 ghost use Rattle.vm_machine.specs.Turns.{Takes};
 
 use crate::NoMemory;
@@ -112,6 +116,7 @@ impl Machine {
         ensures grant { IfOk result (λ m. m.grant ≡ grant) }
         ensures seed { IfOk result (λ m. m.seed ≡ lanes.seed) }
         ensures turns { IfOk result (λ m. m.turns ≡ 0) }
+        ensures room { IfOk result (λ m. m.quads.room ≡ grant.memory + 16) }
     {
         let parts = boot(alloc, image, grant, lanes.count)?;
         let scratch = Scratch::new(alloc)?;
@@ -175,6 +180,7 @@ impl Machine {
     pub fn sheet(&self) -> &Sheet
         ensures value { result.now ≡ self.now.sheet }
         ensures sheet { sheet_in self.now.quads result.now ≡ self.now.state.sheet }
+        ensures belongs { Belongs self.now.quads.store result.now }
     {
         &self.parts.sheet
     }
@@ -187,10 +193,12 @@ impl Machine {
         &self.parts.quads
     }
 
-    /// The messages that were given, and which of them are ready.
+    /// The messages that were given, and which of them are ready: those that are not finished and not in flight.
     pub fn queue(&self) -> &Queue
         ensures value { result.now ≡ self.now.queue }
         ensures messages { unfinished result.now.given result.now.ready self.now.state.flight ≡ self.now.state.messages }
+        ensures ready { Every (λ (l : Flying). is_among l.number result.now.ready ≡ false) self.now.state.flight }
+        ensures ascending { IsAscending 0 (length result.now.given) result.now.ready }
     {
         &self.parts.queue
     }

@@ -86,6 +86,12 @@ fn a_sponsor_runs_out_and_its_signal_is_told(rt: HostRuntime) -> Result<(), Fail
         .row(machine.quads(), 1)
         .expect(&rt, "the second sponsor");
     assert_eq!(rt; row.spent.cycles, 50);
+    let root = machine
+        .sheet()
+        .row(machine.quads(), 0)
+        .expect(&rt, "the root");
+    assert_eq!(rt; root.held.memory, 1_047_553);
+    assert_eq!(rt; root.spent.cycles, 23);
     Ok(())
 }
 
