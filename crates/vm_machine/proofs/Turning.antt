@@ -89,3 +89,7 @@ takes-one-sound grant s t pick a ok e = subst (λ (x : State × Answer). Sound g
 
 pub takes-one-taken : (s t : State) (pick : ℕ) (a : Answer) → WordsTaken s → turn s pick ≡ (t, a) → WordsTaken t
 takes-one-taken s t pick a ok e = subst (λ (x : State × Answer). WordsTaken x.0) e (turn-taken s pick ok)
+
+-- no turn changes the grant
+pub grant-kept : (p q r : Parts) → q ≡ record p { stuck = q.stuck } → r.grant ≡ q.grant → r.grant ≡ p.grant
+grant-kept p q r same e = e ∙ ap (λ (x : Parts). x.grant) same

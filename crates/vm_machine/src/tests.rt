@@ -102,9 +102,23 @@ fn one_cell_runs(rt: HostRuntime) -> Result<(), Fail> {
     };
     let failed = Outcome::Failed(number(&rt, 16));
     let ran_out = Outcome::RanOut(Quota::Cycles);
-    first_turns(&rt, alloc, ends, 10, (finished(0, COMMITTED), Turn::Rest), COMMITTED)?;
+    first_turns(
+        &rt,
+        alloc,
+        ends,
+        10,
+        (finished(0, COMMITTED), Turn::Rest),
+        COMMITTED,
+    )?;
     first_turns(&rt, alloc, ends, 0, (spent, spent), ran_out)?;
-    first_turns(&rt, alloc, pair, 10, (finished(0, failed), Turn::Rest), failed)?;
+    first_turns(
+        &rt,
+        alloc,
+        pair,
+        10,
+        (finished(0, failed), Turn::Rest),
+        failed,
+    )?;
     Ok(())
 }
 
@@ -246,7 +260,10 @@ fn words_cannot_be_made_out_of_numbers(rt: HostRuntime) -> Result<(), Fail> {
         encode(Op::End(1), Word::UNDEF),
     ]?;
     let sent = [entry(0, COMMITTED), entry(1, COMMITTED)];
-    let fails = [entry(0, COMMITTED), entry(1, Outcome::Failed(number(&rt, 16)))];
+    let fails = [
+        entry(0, COMMITTED),
+        entry(1, Outcome::Failed(number(&rt, 16))),
+    ];
     let _read = tells(&rt, alloc, reads, 100, b"?\n", &sent, amounts(4, 1, 5))?;
     let _made = tells(&rt, alloc, makes, 100, b"?\n", &sent, amounts(6, 1, 6))?;
     let posed = tells(&rt, alloc, poses, 100, b"", &fails, amounts(6, 1, 7))?;
