@@ -11,6 +11,7 @@ use Rattle.hum_syntax.specs.Lexes.{IsTokens}
 use Rattle.hum_syntax.specs.Prints.{printed, levels}
 use Rattle.hum_syntax.specs.Spells.{Spells, IsStmts, deepest, kinds}
 use Rattle.hum_syntax.specs.Tokens.{all_placed, kinds_of, weight, weight_of, weight_of_kinds, weight_limit}
+use Rattle.hum_syntax.proofs.ShortTexts.{some_weight}
 use Rattle.hum_syntax.proofs.SizedTrees.{weight-kinds, kinds_of-placed}
 
 pub text_tokens : (bytes : Bytes) (xs : List Stmt) (t : IsTextOf bytes xs) → weight_of_kinds (printed xs) ≤ weight_limit → IsTokens bytes t.tokens
@@ -23,11 +24,6 @@ pub text_spells : (bytes : Bytes) (tree : Tree) (t : IsTextOf bytes tree.stateme
     → (ts : List Token) → all_placed ts ≡ t.tokens → Spells (kinds ts) tree
 text_spells bytes tree t shallow ts same =
     subst (λ ks. IsStmts deepest ks tree.statements) (sym (sym (kinds_of-placed ts) ∙ ap kinds_of same ∙ t.kinds)) (t.spell deepest shallow)
-
-some_weight : (kind : TokenKind) → 0 < weight_of kind
-some_weight (k.Symbol run) = omega arith
-some_weight (k.Text cs) = omega arith
-some_weight _ = omega arith
 
 pub few_tokens : (ts : List Token) → length ts ≤ weight (all_placed ts)
 few_tokens [] = omega arith

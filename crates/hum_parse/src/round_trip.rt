@@ -1,10 +1,9 @@
 //! What is printed is read again.
 
-ghost use Rattle.std.specs.Prelude.{◌≡◌, ◌≤◌, ◌<◌, ◌^◌, ◌⊎◌, length};
+ghost use Rattle.std.specs.Prelude.{◌≡◌, ◌≤◌, ◌⊎◌};
 ghost use Rattle.hum_syntax.specs.Prints.{printed, levels};
 ghost use Rattle.hum_syntax.specs.Spells.{deepest};
 ghost use Rattle.hum_syntax.specs.Tokens.{weight_of_kinds, weight_limit};
-ghost use Rattle.hum_syntax.specs.Writes.{text_of};
 
 use crate::whole::{ParseError, parse};
 use hum_lex::lex;
@@ -15,7 +14,6 @@ use std::alloc::Global;
 pub fn read_back(alloc: Global, tree: &Tree) -> Result<Tree, ParseError>
     requires light { weight_of_kinds (printed tree.now.statements) ≤ weight_limit }
     requires shallow { levels tree.now.statements ≤ deepest }
-    requires short { length (text_of (printed tree.now.statements)) < 2 ^ 32 }
     ensures { (result ≡ Ok tree.now) ⊎ (result ≡ Err ParseError.NoMemory) }
 {
     let Ok(text) = print(alloc, tree) else {

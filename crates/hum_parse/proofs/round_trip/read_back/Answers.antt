@@ -1,9 +1,17 @@
-use Rattle.std.proofs.Common.{◌≡◌, ◌≤◌, length, ap, sym, subst, arith}
+use Rattle.std.proofs.Common.{◌≡◌, ◌≤◌, ◌*◌, length, ap, sym, subst, arith}
 use Rattle.hum_syntax.specs.Lexes.{IsTokens}
+use Rattle.hum_syntax.specs.Prints.{printed}
 use Rattle.hum_syntax.specs.Spells.{Spells, kinds}
-use Rattle.hum_syntax.specs.Tokens.{all_placed, weight}
+use Rattle.hum_syntax.specs.Tokens.{all_placed, weight, weight_of_kinds}
 use Rattle.hum_parse.proofs.Reread.{few_tokens, text_spells, text_tokens}
 use Rattle.hum_parse.proofs.round_trip.read_back.Goals as goal
+
+pub lex-requires : goal.lex-requires
+lex-requires c =
+    let short : length c.in-Ok.text.items ≤ 129 * weight_of_kinds (printed c.args.tree.now.statements) = c.in-Ok.ensures.short in
+    let same : length c.as_slice.result.now ≡ length c.in-Ok.text.items = ap length c.as_slice.ensures.value in
+    let light = c.requires.light in
+    omega arith
 
 pub parse-requires : goal.parse-requires
 parse-requires c =
