@@ -11,6 +11,7 @@ use Rattle.hum_lex.specs.declared.error.LexError.{LexError}
 use Rattle.hum_lex.specs.declared.error.LexError.TheVariants as error
 use Rattle.hum_lex.specs.declared.error.LexRefused.{LexRefused}
 use Rattle.hum_lex.specs.Faults.{Fault, heavy, IsRefusedAt}
+use Rattle.hum_lex.specs.Laws.{OneTokenList}
 use Rattle.hum_lex.specs.Fronts.{IsGap, IsToken, IsFault, IsHeavy}
 use Rattle.hum_lex.proofs.Leads.{one_step, end_step}
 use Rattle.hum_lex.proofs.Faulty.{only_heavy}
@@ -136,11 +137,10 @@ module _ (bytes : Bytes) where
         subst (λ (r : LexRefused). IsRefusedAt bytes r.at r.cause) both (refused_heavy called at weighed len kind ts is more tok h.1)
 
 -- A text has one list of tokens.
-pub one_list : (bytes : Bytes) (us vs : List Placed) → IsTokens bytes us → IsTokens bytes vs → us ≡ vs
+pub one_list : OneTokenList
 one_list bytes us vs a b =
-    let e = a.lexes.0 in
-    let on = passes (start bytes) e b.lexes.0 us vs a.lexes.1 b.lexes.1 b.lexes.2 in
-    sym (on.1 ∙ ap (λ xs. us ++ xs) (nothing e b.lexes.0 on.0 on.2 a.lexes.2) ∙ append-nil us)
+    let on = passes (start bytes) a.0 b.0 us vs a.1 b.1 b.2 in
+    sym (on.1 ∙ ap (λ xs. us ++ xs) (nothing a.0 b.0 on.0 on.2 a.2) ∙ append-nil us)
   where
     nothing : (e d : Spot) (xs : List Placed) → Leads e xs d → e.rest ≡ [] → xs ≡ []
     nothing e d xs here end = refl

@@ -2,13 +2,13 @@
 use Rattle.std.specs.Prelude.{◌≡◌, ◌⊎◌, ℕ, List}
 use Rattle.hum_syntax.specs.Forms.{Bytes}
 use Rattle.hum_syntax.specs.Tokens.{Placed}
-use Rattle.hum_syntax.specs.Lexes.{IsTokens}
+use Rattle.hum_syntax.specs.Lexes.{Lexes, IsTokens}
 use Rattle.hum_lex.specs.declared.error.LexCause.{LexCause}
 use Rattle.hum_lex.specs.Faults.{IsRefusedAt}
 
--- a text has one list of tokens at most
+-- a text has one list of tokens at most, whatever they weigh
 abbrev pub OneTokenList : Type 0
-OneTokenList = (bytes : Bytes) (us vs : List Placed) → IsTokens bytes us → IsTokens bytes vs → us ≡ vs
+OneTokenList = (bytes : Bytes) (us vs : List Placed) → Lexes bytes us → Lexes bytes vs → us ≡ vs
 
 -- it is refused at one place at most, and for one cause
 abbrev pub OneRefusal : Type 0

@@ -2,7 +2,7 @@
 
 ghost use Rattle.hum_lex.specs.Laws.{OneTokenList, OneRefusal, NeverBoth, OneOfBoth};
 
-/// A text has one list of tokens at most, each at its place.
+/// A text has one list of tokens at most, whatever they weigh.
 pub fn texts_have_one_token_list()
     ensures { OneTokenList }
 {}
