@@ -7,9 +7,8 @@ use Rattle.hum_syntax.specs.declared.TokenKind.TheVariants as k
 use Rattle.hum_syntax.specs.Forms.{Bytes, is_delimiter, is_run_byte, is_text, point_bytes, text_bytes}
 use Rattle.hum_syntax.specs.Kinds.{kind_of_run}
 use Rattle.hum_syntax.specs.Tokens.{Placed, weight, weight_limit}
-use Rattle.hum_syntax.specs.Lexes.{IsWholeRun, is_large, is_reserved, Spot, Step, token, Leads, here, step, start}
+use Rattle.hum_syntax.specs.Lexes.{IsWholeRun, is_large, is_reserved, Spot, token, Leads, here, step, start}
 use Rattle.hum_lex.specs.declared.error.LexCause.{LexCause}
-use Rattle.hum_lex.specs.declared.error.LexCause.TheVariants as cause
 use Rattle.hum_lex.specs.Faults.{BeginsNoPoint, Fault, stray, hash_delimiter, hash_stray, open_text, bad_text, long_run, long_symbol, large, reserved, heavy, IsRefusedAt}
 use Rattle.hum_lex.specs.Laws.{OneRefusal, NeverBoth}
 use Rattle.hum_lex.proofs.Points.{point_same}
