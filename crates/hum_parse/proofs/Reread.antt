@@ -3,8 +3,6 @@ use Rattle.std.proofs.Common.{◌≡◌, ◌≤◌, ◌<◌, List, [], ◌∷◌
 use Rattle.hum_syntax.specs.declared.Token.{Token}
 use Rattle.hum_syntax.specs.declared.Tree.{Tree}
 use Rattle.hum_syntax.specs.declared.Stmt.{Stmt}
-use Rattle.hum_syntax.specs.declared.TokenKind.{TokenKind}
-use Rattle.hum_syntax.specs.declared.TokenKind.TheVariants as k
 use Rattle.hum_syntax.specs.Forms.{Bytes}
 use Rattle.hum_syntax.specs.Laws.{IsTextOf}
 use Rattle.hum_syntax.specs.Lexes.{Lexes, IsTokens}

@@ -1,5 +1,4 @@
 use Rattle.std.proofs.Common.{◌≡◌, ◌≤◌, Some, length, ap, sym, subst, inl, inr, arith}
-use Rattle.hum_syntax.specs.declared.Tree.{Tree}
 use Rattle.hum_syntax.specs.Lexes.{Lexes}
 use Rattle.hum_syntax.specs.Spells.{Spells, kinds}
 use Rattle.hum_syntax.specs.Tokens.{all_placed, weight}
