@@ -8,7 +8,7 @@ use Rattle.uasm_read.specs.declared.faults.Which.{Which}
 use Rattle.uasm_read.specs.declared.faults.Which.TheVariants as which
 use Rattle.uasm_read.specs.declared.build.Directive.{Directive}
 use Rattle.uasm_read.specs.declared.build.Directive.TheVariants as directive
-use Rattle.uasm_read.specs.Faults.{label_of, import_of, export_of, defined_by, is_no_end}
+use Rattle.uasm_read.specs.Faults.{label_of, import_of, export_of, defined_by, is_item}
 use Rattle.uasm_read.specs.declared.texts.Class.{Class}
 use Rattle.uasm_read.specs.declared.texts.Class.TheVariants as class
 use Rattle.uasm_read.specs.Texts.{Bytes, Name, is_blank, is_semicolon, is_line_feed}
@@ -39,7 +39,7 @@ abbrev pub directed_by : Directive → Line → List Name
 directed_by directive.Imports line = import_of line
 directed_by directive.Exports line = export_of line
 
--- how many lines are no end of the text
-abbrev pub no_ends : List Line → ℕ
-no_ends [] = 0
-no_ends (line ∷ lines) = (if is_no_end line then 1 else 0) + no_ends lines
+-- how many lines have the form of an item
+abbrev pub items_among : List Line → ℕ
+items_among [] = 0
+items_among (line ∷ lines) = (if is_item line then 1 else 0) + items_among lines

@@ -51,7 +51,7 @@ fn is_refused(alloc: Global, text: &[u8], line: u32, cause: UasmCause) -> bool {
     }
 }
 
-const REFUSALS: [(&[u8], u32, UasmCause); 40] = [
+const REFUSALS: [(&[u8], u32, UasmCause); 43] = [
     (b"debug\nfrob 1", 2, UasmCause::NoOperation),
     (b"end commit\n9x", 2, UasmCause::BadLine),
     (b"end commit ; \xC3\xA9", 1, UasmCause::BadLine),
@@ -66,7 +66,10 @@ const REFUSALS: [(&[u8], u32, UasmCause); 40] = [
     (b".bss", 1, UasmCause::BadLine),
     (b"end commit\na:", 2, UasmCause::BadLine),
     (b"end commit\na:\na:\n", 2, UasmCause::BadLine),
-    (b"a:\npush", 2, UasmCause::BadOperand),
+    (b"a:\npush", 1, UasmCause::BadLine),
+    (b"a:\n.export 7", 1, UasmCause::BadLine),
+    (b"end commit\na:\nb: x", 2, UasmCause::BadLine),
+    (b"a:\npush\nend commit", 2, UasmCause::BadOperand),
     (b"ref a", 1, UasmCause::BadLine),
     (b"ref", 1, UasmCause::BadLine),
     (b"a:\ndebug\nref a\nref a", 4, UasmCause::BadLine),
