@@ -220,7 +220,8 @@ fn first_unknown(alloc: Global, lines: &[Line]) -> Result<Option<UasmRefused>, A
     Ok(None)
 }
 
-fn is_instr_t(operand: &Operand) -> bool
+/// Whether the word is `#instr_t`.
+pub fn is_instr_t(operand: &Operand) -> bool
     ensures { result ≡ is_instr_t operand.now }
 {
     match operand {

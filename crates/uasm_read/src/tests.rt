@@ -1,6 +1,8 @@
 //! Worked texts: what each assembles to, and where it is refused.
 
-use crate::{Module, Operand, ReadModuleError, UasmCause, lines_spell_operations, read_module};
+use crate::{
+    Module, Operand, ReadModuleError, UasmCause, lines_spell_operations, read_module, write_module,
+};
 use std::alloc::Global;
 use std::test::Fail;
 
@@ -192,6 +194,52 @@ fn modules(rt: HostRuntime) -> Result<(), Fail> {
     assert!(rt; read(rt.alloc(), &long).is_ok());
     long.push(b';')?;
     assert!(rt; is_refused(rt.alloc(), &long, 1, UasmCause::TooLong));
+    Ok(())
+}
+
+// Texts, and what their modules are written as.
+const WRITTEN: [(&[u8], &[u8]); 12] = [
+    (b"", b""),
+    (b"; nothing\n\n", b""),
+    (
+        b"a: ; first\n .export a\n\tpush\t-007\r\n\nref a\n.import b",
+        b".import b\n.export a\na:\npush -7\nref a\n",
+    ),
+    (
+        b"a:\nb:\n depth\n eq #block_t\n jump",
+        b"a:\nb:\ndepth\neq #block_t\njump\n",
+    ),
+    (
+        b"roll -2\nalu mul\nend abort",
+        b"roll -2\nalu mul\nend abort\n",
+    ),
+    (b"cell #instr_t 21 -1 #?", b"end abort\n"),
+    (b"cell #instr_t 21 -1 0", b"cell #instr_t 21 -1 0\n"),
+    (b"a: \ncell #instr_t 16 #? a", b"a:\njump\nref a\n"),
+    (
+        b"a:\ncell #instr_t 0 a a\ncell #instr_t 0 a #?",
+        b"a:\npush a\nref a\ncell #instr_t 0 a #?\n",
+    ),
+    (
+        b"a:\ncell #instr_t 1 16 a\ncell #instr_t 27 0 a",
+        b"a:\ncell #instr_t 1 16 a\ncell #instr_t 27 0 a\n",
+    ),
+    (
+        b"cell #pair_t 1 #nil #?\ncell #pair_t 1 2 3",
+        b"pair_t 1 #nil\ncell #pair_t 1 2 3\n",
+    ),
+    (
+        b"push ref\nend stop\nref:\npair_t 1 1",
+        b"push ref\nend stop\nref:\npair_t 1 1\n",
+    ),
+];
+
+#[test]
+fn written_texts(rt: HostRuntime) -> Result<(), Fail> {
+    for row in WRITTEN.iter() {
+        let module = read(rt.alloc(), row.0).ok().expect(&rt, "a module");
+        assert_eq!(rt; write_module(rt.alloc(), &module)?.as_slice(), row.1);
+    }
     Ok(())
 }
 
