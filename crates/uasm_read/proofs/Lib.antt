@@ -16,3 +16,4 @@ pub mod WrittenParts
 pub mod WrittenWords
 pub mod WrittenLines
 mod Written
+mod HasLines

@@ -1,7 +1,8 @@
 //! Worked texts: what each assembles to, and where it is refused.
 
 use crate::{
-    Module, Operand, ReadModuleError, UasmCause, lines_spell_operations, read_module, write_module,
+    Module, Operand, ReadModuleError, UasmCause, lines_spell_operations, operations_have_lines,
+    read_module, write_module,
 };
 use std::alloc::Global;
 use std::test::Fail;
@@ -246,4 +247,5 @@ fn written_texts(rt: HostRuntime) -> Result<(), Fail> {
 #[test]
 fn laws_have_no_body(_rt: HostRuntime) {
     lines_spell_operations();
+    operations_have_lines();
 }
