@@ -1,5 +1,5 @@
 -- Each cell that spells an operation of the machine's table is that of a line.
-use Rattle.std.proofs.Common.{◌≡◌, ℕ, zero, suc, Bool, true, false, Option, Some, None, refl, sym, ap, ◌∙◌, subst, arith, rules, pos, negsuc, ℤ}
+use Rattle.std.proofs.Common.{◌≡◌, ℕ, suc, Bool, true, false, Option, Some, None, refl, sym, ap, ◌∙◌, subst, arith, rules, pos, negsuc, ℤ}
 use Rattle.std.specs.Prelude.{is_some, if◌then◌else◌, ◌||◌, nat_eq, nat_le, int_le, option_map}
 use Rattle.std.specs.Ordering.{int_eq}
 use Rattle.std.proofs.lemmas.Bool.{eqb-true, and_parts, and_from}

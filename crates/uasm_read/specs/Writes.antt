@@ -25,7 +25,7 @@ word_text (operand.Const k) = part_at constant_names k
 word_text (operand.Label name) = name
 word_text operand.Following = []
 
--- how far a number lies above another one
+-- a number that is not below 0, and 0 for one that is
 abbrev pub natural : ℤ → ℕ
 natural (pos n) = n
 natural (negsuc n) = 0
