@@ -16,7 +16,8 @@
 //!
 //! A word is a decimal from -1073741824 to 1073741823 (digits with at most one `-` before them, leading zeros allowed, at most 128 bytes),
 //! a constant such as `#nil`, or a name. The operations with their operands are those of the table `row_of` in `specs/`;
-//! `lines_spell_operations` says that each is one of the instruction table, and `operations_have_lines` that it has no others. `end` and `jump` have the next `#?`, but for a `ref`.
+//! `lines_spell_operations` says that each is one of the instruction table, and `operations_have_lines` that the table has no others.
+//! `end` and `jump` have the next `#?`, but for a `ref`.
 //!
 //! A text is refused by the first of these: it has more than 1,048,576 bytes; its first line that has no form, is a label that no item
 //! follows or a `ref` that follows no instruction, or names a label or import a second time; its first line that uses what is neither label

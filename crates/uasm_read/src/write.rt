@@ -156,7 +156,8 @@ fn put_four(
     z: &Operand,
 ) -> Result<(), AllocError>
     ensures { OnOk result (text.new.items
-        ≡ text.old.items ++ (join_with_byte 32 (codes "cell" ∷ spec.word_text t.now ∷ spec.word_text x.now ∷ spec.word_text y.now ∷ spec.word_text z.now ∷ []) ++ codes "\n")) }
+        ≡ text.old.items ++ (join_with_byte 32 (codes "cell" ∷ spec.word_text t.now ∷ spec.word_text x.now
+        ∷ spec.word_text y.now ∷ spec.word_text z.now ∷ []) ++ codes "\n")) }
 {
     text.extend_from_slice(b"cell")?;
     put_word(text, t)?;
