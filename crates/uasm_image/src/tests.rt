@@ -1,4 +1,5 @@
 use super::*;
+use std::alloc::Global;
 use std::test::Fail;
 
 // Two cells. The first one's word 1 and 2 are numbers, and the second one's word 1 names that cell.
@@ -77,6 +78,30 @@ fn a_changed_byte_is_told_at_its_number(rt: HostRuntime) {
             assert_eq!(rt; decode(alloc, &bytes).err(), expected, "byte {at}");
         }
     }
+}
+
+// Whether bytes are refused at a place among them, or are those of the image that they are read as.
+fn is_answered(alloc: Global, bytes: &[u8]) -> Result<bool, Fail> {
+    match decode(alloc, bytes) {
+        Ok(image) => Ok(encode(alloc, &image)?.as_slice() == bytes),
+        Err(DecodeError::Refused(why)) => Ok(why.at as usize <= bytes.len()),
+        Err(DecodeError::NoMemory) => Ok(false),
+    }
+}
+
+#[test]
+fn each_byte_may_have_any_value(rt: HostRuntime) -> Result<(), Fail> {
+    let alloc = rt.alloc();
+    for at in 0..44 {
+        for value in 0..=255 {
+            let mut bytes = IMAGE;
+            if let Some(byte) = bytes.get_mut(at) {
+                *byte = value;
+            }
+            assert!(rt; is_answered(alloc, &bytes)?, "{value} at {at}");
+        }
+    }
+    Ok(())
 }
 
 #[test]

@@ -1,7 +1,5 @@
 //! From an image to its bytes.
 
-//! From an image to its bytes.
-
 ghost use Rattle.std.specs.Prelude.{◌≡◌, ◌++◌, IsTrue, true, IfOk, OnOk};
 ghost use Rattle.uasm_image.specs.Spelled as spelling;
 ghost use Rattle.uasm_image.specs.Spelled.{spelled, is_exact, is_exact_quad, IsImage};

@@ -12,8 +12,8 @@ ghost use Rattle.uasm_link.specs.Linkable.{is_linkable, are_linkable};
 
 use crate::numbers::labels_of;
 use cap_words::{Name, Quad, Word};
+use indexmap::IndexMap;
 use std::alloc::{AllocError, Global};
-use std::collections::HashMap;
 use uasm_read::{Item, Module, Operand};
 
 // The word of the item of that number.
@@ -24,7 +24,7 @@ fn item_word(at: u32) -> Word
     Word::rom_bits(at).unwrap_or(Word::UNDEF)
 }
 
-fn number_of(labels: &HashMap<&[u8], u32>, exports: &HashMap<&[u8], u32>, name: &Name) -> u32
+fn number_of(labels: &IndexMap<&[u8], u32>, exports: &IndexMap<&[u8], u32>, name: &Name) -> u32
     ensures { result ≡ unwrap_or (option_or (number_in labels.now name.now) (number_in exports.now name.now)) 0 }
 {
     match labels.get(name.bytes()) {
@@ -33,15 +33,15 @@ fn number_of(labels: &HashMap<&[u8], u32>, exports: &HashMap<&[u8], u32>, name: 
     }
 }
 
-fn name_word(labels: &HashMap<&[u8], u32>, exports: &HashMap<&[u8], u32>, name: &Name) -> Word
+fn name_word(labels: &IndexMap<&[u8], u32>, exports: &IndexMap<&[u8], u32>, name: &Name) -> Word
     ensures { result ≡ resolved labels.now exports.now name.now }
 {
     Word::rom_bits(number_of(labels, exports, name)).unwrap_or(Word::UNDEF)
 }
 
 fn linked_word(
-    labels: &HashMap<&[u8], u32>,
-    exports: &HashMap<&[u8], u32>,
+    labels: &IndexMap<&[u8], u32>,
+    exports: &IndexMap<&[u8], u32>,
     at: u32,
     operand: &Operand,
 ) -> Word
@@ -58,8 +58,8 @@ fn linked_word(
 }
 
 fn linked_cell(
-    labels: &HashMap<&[u8], u32>,
-    exports: &HashMap<&[u8], u32>,
+    labels: &IndexMap<&[u8], u32>,
+    exports: &IndexMap<&[u8], u32>,
     at: u32,
     cell: &[Operand; 4],
 ) -> Quad
@@ -78,8 +78,8 @@ fn linked_cell(
 
 fn push_cells(
     cells: &mut Vec<Quad>,
-    labels: &HashMap<&[u8], u32>,
-    exports: &HashMap<&[u8], u32>,
+    labels: &IndexMap<&[u8], u32>,
+    exports: &IndexMap<&[u8], u32>,
     at: u32,
     items: &[Item],
 ) -> Result<(), AllocError>
@@ -101,7 +101,7 @@ fn push_cells(
 pub fn cells_of(
     alloc: Global,
     modules: &[Module],
-    exports: &HashMap<&[u8], u32>,
+    exports: &IndexMap<&[u8], u32>,
 ) -> Result<Vec<Quad>, AllocError>
     requires few { spec.count_of_items modules.now ≤ spec.item_limit }
     requires numbered { (name : NameBytes) → number_in exports.now name ≡ spec.export_number spec.first_number modules.now name }

@@ -11,8 +11,8 @@ ghost use Rattle.uasm_read.specs.Links as spec;
 ghost use Rattle.uasm_link.specs.Numbering.{number_in};
 
 use cap_words::{Name, Word};
+use indexmap::IndexMap;
 use std::alloc::{AllocError, Global};
-use std::collections::HashMap;
 use uasm_read::{Item, Module};
 
 const ITEM_LIMIT: usize = 1_048_560;
@@ -33,7 +33,7 @@ pub fn count_items(modules: &[Module]) -> usize
 
 // Gives a name this number, if it has none.
 fn put<'a>(
-    numbers: &mut HashMap<&'a [u8], u32>,
+    numbers: &mut IndexMap<&'a [u8], u32>,
     name: &'a [u8],
     number: u32,
 ) -> Result<(), AllocError>
@@ -48,7 +48,7 @@ fn put<'a>(
 
 // Gives labels their number, but for those that have one.
 fn add_labels<'a>(
-    numbers: &mut HashMap<&'a [u8], u32>,
+    numbers: &mut IndexMap<&'a [u8], u32>,
     labels: &'a [Name],
     number: u32,
 ) -> Result<(), AllocError>
@@ -68,11 +68,11 @@ pub fn labels_of<'a>(
     alloc: Global,
     at: u32,
     items: &'a [Item],
-) -> Result<HashMap<&'a [u8], u32>, AllocError>
+) -> Result<IndexMap<&'a [u8], u32>, AllocError>
     requires { at + length items.now < 2 ^ 29 }
     ensures { IfOk result (λ numbers. (name : NameBytes) → number_in numbers name ≡ spec.label_number at items.now name) }
 {
-    let mut numbers = HashMap::new(alloc);
+    let mut numbers = IndexMap::new(alloc);
     let mut at = at;
     let mut rest = items;
     while let [item, more @ ..] = rest {
@@ -85,9 +85,9 @@ pub fn labels_of<'a>(
 
 // Gives a name the number of its label, if it has none.
 fn put_export<'a>(
-    numbers: &mut HashMap<&'a [u8], u32>,
+    numbers: &mut IndexMap<&'a [u8], u32>,
     name: &'a [u8],
-    labels: &HashMap<&[u8], u32>,
+    labels: &IndexMap<&[u8], u32>,
 ) -> Result<(), AllocError>
     ensures { OnOk result ((other : NameBytes) →
         number_in numbers.new other ≡ option_or (number_in numbers.old other) (if bytes_eq other name.now then number_in labels.now other else None)) }
@@ -100,9 +100,9 @@ fn put_export<'a>(
 
 // Gives exports the numbers of their labels, but for those that have one.
 fn add_exports<'a>(
-    numbers: &mut HashMap<&'a [u8], u32>,
+    numbers: &mut IndexMap<&'a [u8], u32>,
     exports: &'a [Name],
-    labels: &HashMap<&[u8], u32>,
+    labels: &IndexMap<&[u8], u32>,
 ) -> Result<(), AllocError>
     ensures { OnOk result ((name : NameBytes) →
         number_in numbers.new name ≡ option_or (number_in numbers.old name) (if has_name exports.now name then number_in labels.now name else None)) }
@@ -119,11 +119,11 @@ fn add_exports<'a>(
 pub fn exports_of<'a>(
     alloc: Global,
     modules: &'a [Module],
-) -> Result<HashMap<&'a [u8], u32>, AllocError>
+) -> Result<IndexMap<&'a [u8], u32>, AllocError>
     requires { spec.count_of_items modules.now ≤ ITEM_LIMIT }
     ensures { IfOk result (λ numbers. (name : NameBytes) → number_in numbers name ≡ spec.export_number spec.first_number modules.now name) }
 {
-    let mut numbers = HashMap::new(alloc);
+    let mut numbers = IndexMap::new(alloc);
     let mut at: u32 = 16;
     let mut rest = modules;
     while let [part, more @ ..] = rest {

@@ -15,9 +15,9 @@ use crate::error::LinkError;
 use crate::names::{Side, first_missing, first_twice, names_of, set_of};
 use crate::numbers::{count_items, exports_of};
 use cap_words::{Name, Word};
+use indexmap::IndexMap;
 use quad_memory::Image;
 use std::alloc::{AllocError, Global};
-use std::collections::HashMap;
 use uasm_read::Module;
 
 fn name_copied(alloc: Global, name: &Name) -> Result<Name, AllocError>
@@ -52,7 +52,7 @@ fn check(alloc: Global, modules: &[Module]) -> Result<(), LinkError>
 }
 
 // The word of the export `boot`.
-fn boot_word(exports: &HashMap<&[u8], u32>) -> Word
+fn boot_word(exports: &IndexMap<&[u8], u32>) -> Word
     ensures { result ≡ rom_of (unwrap_or (number_in exports.now spec.boot_name) 0) }
 {
     let number = exports.get(b"boot".as_slice()).copied().unwrap_or(0);

@@ -11,10 +11,11 @@ use Rattle.uasm_read.specs.declared.operation.Operation.{Operation}
 use Rattle.uasm_read.specs.declared.operation.Operation.TheVariants as o
 use Rattle.uasm_read.specs.Texts.{parts_of}
 use Rattle.uasm_read.specs.Operations.{Shape, Value, Nothing, Within, Turn, Choice, row_of}
-use Rattle.uasm_read.specs.Modules.{is_word, fits, numbered}
+use Rattle.uasm_read.specs.Modules.{is_word, fits, operation_at, numbered}
 
 -- the number of an operation is its own
 pub number_found : (operation : Operation) → numbered (operand.Fix (pos (row_of operation).number)) ≡ Some operation
+unfolding operation_at
 number_found o.Push = refl
 number_found o.Dup = refl
 number_found o.Drop = refl

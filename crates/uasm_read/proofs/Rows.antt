@@ -16,11 +16,11 @@ refused text r = assembled (Some 1048576) text ≡ r
 abbrev at : UasmCause → Result ModuleParts UasmRefused
 at why = Err (record { line = 2; cause = why })
 
-row_bad : refused (codes "boot:\n9x 1\n") (at cause.BadLine)
+row_bad : refused (codes "end stop\n9x 1\n") (at cause.BadLine)
 unfolding assembling
 row_bad = refl
 
-row_none : refused (codes "boot:\n pusch 1") (at cause.NoOperation)
+row_none : refused (codes "end stop\n pusch 1") (at cause.NoOperation)
 unfolding assembling
 row_none = refl
 
@@ -44,11 +44,15 @@ row_label_at_end : refused (codes "debug\na: ; nothing follows\n\n.export a") (a
 unfolding assembling
 row_label_at_end = refl
 
+row_label_before_bad : refused (codes "end stop\na:\nb:\npush") (at cause.BadLine)
+unfolding assembling
+row_label_before_bad = refl
+
 row_after_label : refused (codes "end commit\nx:\nref x\ndebug\nref x") (Err (record { line = 3; cause = cause.BadLine }))
 unfolding assembling
 row_after_label = refl
 
-row_word : refused (codes "a:\ncell #instr_t 0 1073741824 #?") (at cause.BadOperand)
+row_word : refused (codes "end stop\ncell #instr_t 0 1073741824 #?") (at cause.BadOperand)
 unfolding assembling
 row_word = refl
 

@@ -19,7 +19,7 @@ use Rattle.uasm_read.specs.declared.line.Line.TheVariants.{Blank, Import, Export
 use Rattle.uasm_read.specs.Texts.{Bytes, Name, is_name, has_name}
 use Rattle.uasm_read.specs.Operations.{row_of, goes_on}
 use Rattle.uasm_read.specs.Lines.{line_of}
-use Rattle.uasm_read.specs.Faults.{labels_of, imports_of, exports_of, defined_in, used_by, refused_or, first, fault_if, is_no_end, line_fault, name_unknown, next_named, instruction_follows, falls_off, refusal}
+use Rattle.uasm_read.specs.Faults.{labels_of, imports_of, exports_of, defined_in, used_by, refused_or, first, fault_if, is_item, line_fault, name_unknown, next_named, instruction_follows, falls_off, refusal}
 use Rattle.uasm_read.specs.Modules.{is_word, names_in, fits, begins_with_instruction, is_cell, are_items, labels_in, used_in, are_different, are_apart, is_module}
 use Rattle.uasm_read.specs.Assembles.{next_word, items_of, module_of}
 use Rattle.uasm_read.proofs.Searches.{Test}
@@ -134,7 +134,7 @@ label_ends true o h = (refl, h)
 label_ends false o h = absurd (let e : Some cause.BadLine ≡ None = h in cc)
 
 -- the labels of the items are those of the lines
-labels_same : (labels : List Name) (before lines : List Line) → first line_fault before lines ≡ None → (list_any is_no_end lines ≡ false → labels ≡ []) → labels_in (items_of labels lines) ≡ labels ++ labels_of lines
+labels_same : (labels : List Name) (before lines : List Line) → first line_fault before lines ≡ None → (list_any is_item lines ≡ false → labels ≡ []) → labels_in (items_of labels lines) ≡ labels ++ labels_of lines
 unfolding items_of labels_of
 labels_same labels before [] none ends = rw (ends refl) refl
 labels_same labels before (Blank ∷ lines) none ends = labels_same labels (Blank ∷ before) lines (first_none line_fault before Blank lines none).1 ends
@@ -142,7 +142,7 @@ labels_same labels before (Import name ∷ lines) none ends = labels_same labels
 labels_same labels before (Export name ∷ lines) none ends = labels_same labels (Export name ∷ before) lines (first_none line_fault before (Export name) lines none).1 ends
 labels_same labels before (Label name ∷ lines) none ends =
     let parts = first_none line_fault before (Label name) lines none in
-    let more = label_ends (list_any is_no_end lines) _ parts.0 in
+    let more = label_ends (list_any is_item lines) _ parts.0 in
     labels_same (labels ++ name ∷ []) (Label name ∷ before) lines parts.1 (λ no. absurd (let e : true ≡ false = sym more.0 ∙ no in cc)) ∙ append_assoc labels (name ∷ []) (labels_of lines)
 labels_same labels before (Instruction operation word ∷ lines) none ends =
     ap (λ rest. labels ++ rest) (labels_same [] (Instruction operation word ∷ before) lines (first_none line_fault before (Instruction operation word) lines none).1 (λ no. refl))
@@ -188,7 +188,7 @@ exports_known all before (Next name ∷ lines) none = exports_known all (Next na
 exports_known all before (Cell t x y z ∷ lines) none = exports_known all (Cell t x y z ∷ before) lines (first_none (name_unknown all) before (Cell t x y z) lines none).1
 exports_known all before (Bad why ∷ lines) none = exports_known all (Bad why ∷ before) lines (first_none (name_unknown all) before (Bad why) lines none).1
 
-both : (p : Name → Bool) (names others : List Name) → list_all p names ≡ true → list_all p others ≡ true → list_all p (names ++ others) ≡ true
+pub both : (p : Name → Bool) (names others : List Name) → list_all p names ≡ true → list_all p others ≡ true → list_all p (names ++ others) ≡ true
 both p names others h k = list_all-append p names others ∙ and_from (list_all p names) _ h k
 
 lines_known : (all before lines : List Line) → first (name_unknown all) before lines ≡ None → list_all (has_name (defined_in all)) (flat_map used_by lines) ≡ true
@@ -208,7 +208,7 @@ lines_known all before (Cell t x y z ∷ lines) none =
     both (has_name (defined_in all)) (used_by (Cell t x y z)) _ (not_not _ (not_refused _ cause.Unknown parts.0)) (lines_known all (Cell t x y z ∷ before) lines parts.1)
 lines_known all before (Bad why ∷ lines) none = lines_known all (Bad why ∷ before) lines (first_none (name_unknown all) before (Bad why) lines none).1
 
-parted : (p : Name → Bool) (names others : List Name) → list_all p (names ++ others) ≡ true → (list_all p names ≡ true) × (list_all p others ≡ true)
+pub parted : (p : Name → Bool) (names others : List Name) → list_all p (names ++ others) ≡ true → (list_all p names ≡ true) × (list_all p others ≡ true)
 parted p names others h = and_parts (list_all p names) _ (sym (list_all-append p names others) ∙ h)
 
 next_name_known : (p : Name → Bool) (name : Option Name) (rest : List Name) → list_all p (used_by (Next name) ++ rest) ≡ true → all_in p name ≡ true
@@ -261,11 +261,11 @@ items_known p labels (Bad why ∷ lines) h = items_known p labels lines h
 abbrev lacks : (Name → Bool) → List Name → Bool
 lacks q names = list_all (λ name. not (q name)) names
 
-neither : (a b : Bool) → not (a || b) ≡ true → (a ≡ false) × (not b ≡ true)
+pub neither : (a b : Bool) → not (a || b) ≡ true → (a ≡ false) × (not b ≡ true)
 neither true b h = absurd (let e : false ≡ true = h in cc)
 neither false b h = (refl, h)
 
-not_either : (a b : Bool) → a ≡ false → not b ≡ true → not (a || b) ≡ true
+pub not_either : (a b : Bool) → a ≡ false → not b ≡ true → not (a || b) ≡ true
 not_either true b h k = absurd (let e : true ≡ false = h in cc)
 not_either false b h k = k
 
@@ -325,7 +325,7 @@ apart_of before (Import name ∷ lines) none =
 apart_of before (Export name ∷ lines) none = keep before (Export name ∷ before) lines (Export name ∷ lines) refl refl refl (apart_of (Export name ∷ before) lines (first_none line_fault before (Export name) lines none).1)
 apart_of before (Label name ∷ lines) none =
     let parts = first_none line_fault before (Label name) lines none in
-    let here : has_name (defined_in before) name ≡ false = not_refused _ cause.Twice (label_ends (list_any is_no_end lines) _ parts.0).1 in
+    let here : has_name (defined_in before) name ≡ false = not_refused _ cause.Twice (label_ends (list_any is_item lines) _ parts.0).1 in
     let a = apart_of (Label name ∷ before) lines parts.1 in
     let imports = absent (has_name (defined_in before)) name (imports_of lines) a.fresh_imports in
     let labels = absent (has_name (defined_in before)) name (labels_of lines) a.fresh_labels in
@@ -355,7 +355,7 @@ named (Next name ∷ lines) h = named lines (and_parts (is_formed (Next name)) _
 named (Cell t x y z ∷ lines) h = named lines (and_parts (is_formed (Cell t x y z)) _ h).1
 named (Bad why ∷ lines) h = named lines h
 
-all_alike : (p q : Name → Bool) → ((name : Name) → p name ≡ q name) → (names : List Name) → list_all p names ≡ true → list_all q names ≡ true
+pub all_alike : (p q : Name → Bool) → ((name : Name) → p name ≡ q name) → (names : List Name) → list_all p names ≡ true → list_all q names ≡ true
 all_alike p q same [] h = refl
 all_alike p q same (name ∷ names) h = let parts = and_parts (p name) _ h in and_from (q name) _ (sym (same name) ∙ parts.0) (all_alike p q same names parts.1)
 

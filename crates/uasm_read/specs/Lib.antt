@@ -7,3 +7,4 @@ pub mod Assembles
 pub mod Links
 pub mod Reading
 pub mod Laws
+pub mod Writes

@@ -1,5 +1,5 @@
 -- Modules, and the rule that they keep.
-use Rattle.std.specs.Prelude.{◌-◌, pos, ◌+ℤ◌, Bool, true, false, not, ◌&&◌, nat_eq, nat_lt, List, [], ◌∷◌, ◌++◌, length, Option, Some, None}
+use Rattle.std.specs.Prelude.{◌-◌, ℤ, pos, ◌+ℤ◌, Bool, true, false, not, ◌&&◌, nat_eq, nat_lt, List, [], ◌∷◌, ◌++◌, length, Option, Some, None}
 use Rattle.std.specs.List.{list_all, flat_map, find}
 use Rattle.std.specs.Ordering.{int_eq}
 use Rattle.cap_words.specs.Fixnums.{in_range}
@@ -48,8 +48,12 @@ fits (Choice from words) (Fix n) = within from (from +ℤ pos (length (parts_of 
 fits shape word = false
 
 -- the operation of that number
+unfoldable pub operation_at : ℤ → Option Operation
+operation_at n = find (λ operation. int_eq n (pos (row_of operation).number)) operations
+
+-- the operation whose number the word is
 abbrev pub numbered : Operand → Option Operation
-numbered (Fix n) = find (λ operation. int_eq n (pos (row_of operation).number)) operations
+numbered (Fix n) = operation_at n
 numbered word = None
 
 -- an instruction of that operation, which goes on

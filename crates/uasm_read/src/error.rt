@@ -7,8 +7,9 @@ use std::alloc::{AllocError, AllocFailed};
 pub enum UasmCause {
     /// The text has more than 1,048,576 bytes. Told at line 1.
     TooLong,
-    /// The line has a byte that is not ASCII, or no form: its first part is neither a name nor the front of a form, it is a directive or a
-    /// label that something else stands behind, a label that no item follows, or a `ref` that no instruction stands before.
+    /// The line has a byte that is not ASCII; its first part is neither a name nor `NAME:`, `.import` or `.export`; not one name alone stands
+    /// behind its directive; something stands behind its label; no line with the form of an item comes after its label; or it is a `ref`
+    /// line, and the last line before it that says something is no instruction line.
     BadLine,
     /// The first part is a name, but of no operation.
     NoOperation,
@@ -18,7 +19,8 @@ pub enum UasmCause {
     Twice,
     /// The line names what is neither label nor import, or exports what is no label.
     Unknown,
-    /// An instruction goes on at no instruction.
+    /// The line is an instruction other than `end` and `jump` and has no `ref`, and no item follows it or one whose first word is not
+    /// `#instr_t`.
     FallsOff,
 }
 

@@ -5,7 +5,7 @@ ghost use Rattle.std.specs.List.{flat_map, list_all};
 ghost use Rattle.uasm_read.specs.Texts.{Name as NameBytes, has_name};
 ghost use Rattle.uasm_read.specs.Faults as spec;
 ghost use Rattle.uasm_read.specs.Modules.{names_in, is_instr_t};
-ghost use Rattle.uasm_read.specs.Reading.{holds, names_by, no_ends};
+ghost use Rattle.uasm_read.specs.Reading.{holds, names_by, items_among};
 
 use crate::build::next_named;
 use crate::error::{UasmCause, UasmRefused};
@@ -62,13 +62,12 @@ fn names_of<'a>(
     Ok(names)
 }
 
-fn is_no_end(line: &Line) -> bool
-    ensures { result ≡ spec.is_no_end line.now }
+fn is_item(line: &Line) -> bool
+    ensures { result ≡ spec.is_item line.now }
 {
     match line {
         Line::Instruction(_, _) => true,
         Line::Cell(_, _, _, _) => true,
-        Line::Bad(_) => true,
         _ => false,
     }
 }
@@ -155,14 +154,14 @@ fn unknown_by(labels: &HashSet<&[u8]>, names: &HashSet<&[u8]>, line: &Line) -> O
     }
 }
 
-fn count_no_ends(lines: &[Line]) -> usize
-    ensures value { result ≡ no_ends lines.now }
+fn count_items(lines: &[Line]) -> usize
+    ensures value { result ≡ items_among lines.now }
     ensures within { result ≤ length lines.now }
 {
     let mut rest = lines;
     let mut count = 0;
     while let [line, more @ ..] = rest {
-        if is_no_end(line) {
+        if is_item(line) {
             count += 1;
         }
         rest = more;
@@ -170,11 +169,11 @@ fn count_no_ends(lines: &[Line]) -> usize
     count
 }
 
-// How many of so many items and bad lines stand behind the line.
+// How many of so many items stand behind the line.
 fn left_behind(line: &Line, left: usize) -> usize
-    ensures { result ≡ left - (if spec.is_no_end line.now then 1 else 0) }
+    ensures { result ≡ left - (if spec.is_item line.now then 1 else 0) }
 {
-    if is_no_end(line) {
+    if is_item(line) {
         left.saturating_sub(1)
     } else {
         left
@@ -187,7 +186,7 @@ fn first_line_fault(alloc: Global, lines: &[Line]) -> Result<Option<UasmRefused>
 {
     let mut names = HashSet::new(alloc);
     let mut follows = false;
-    let mut left = count_no_ends(lines);
+    let mut left = count_items(lines);
     let mut at: u32 = 0;
     let mut rest = lines;
     while let [line, more @ ..] = rest {
@@ -221,7 +220,8 @@ fn first_unknown(alloc: Global, lines: &[Line]) -> Result<Option<UasmRefused>, A
     Ok(None)
 }
 
-fn is_instr_t(operand: &Operand) -> bool
+/// Whether the word is `#instr_t`.
+pub fn is_instr_t(operand: &Operand) -> bool
     ensures { result ≡ is_instr_t operand.now }
 {
     match operand {

@@ -1,4 +1,4 @@
-//! Assembly text to modules: `read_module` gives the module of a text, or the first line that is refused and why.
+//! Assembly text to modules and back: `read_module` gives the module of a text, or the first line that is refused and why.
 //!
 //! A text is ASCII in lines, each ended by a line feed or the end of the text; a carriage return directly before a line feed is a blank.
 //! `;` begins a comment. Spaces and tabs separate parts. A name is a letter or `_`, then letters, digits and `_`, at most 128 bytes.
@@ -16,11 +16,15 @@
 //!
 //! A word is a decimal from -1073741824 to 1073741823 (digits with at most one `-` before them, leading zeros allowed, at most 128 bytes),
 //! a constant such as `#nil`, or a name. The operations with their operands are those of the table `row_of` in `specs/`;
-//! `lines_spell_operations` says that each is one of the instruction table. `end` and `jump` have the next `#?`, but for a `ref`.
+//! `lines_spell_operations` says that each is one of the instruction table, and `operations_have_lines` that the table has no others.
+//! `end` and `jump` have the next `#?`, but for a `ref`.
 //!
-//! A text is refused by the first of these: it has more than 1,048,576 bytes; its first line that is wrong by itself, labels nothing, or
-//! has a label or import that stands before; its first line that uses what is neither label nor import, or exports what is no label; its
-//! first instruction that would go on at no instruction.
+//! A text is refused by the first of these: it has more than 1,048,576 bytes; its first line that has no form, is a label that no item
+//! follows or a `ref` that follows no instruction, or names a label or import a second time; its first line that uses what is neither label
+//! nor import, or exports what is no label; its first instruction other than `end` and `jump` that has no `ref`, and that no item follows or
+//! one whose first word is not `#instr_t`.
+//!
+//! `write_module` gives a text that assembles to a module.
 #![tactic(auto)]
 
 mod build;
@@ -35,14 +39,17 @@ mod operand;
 mod operands;
 mod operation;
 mod read;
+mod spells;
 mod texts;
+mod write;
 
 pub use error::{ReadModuleError, UasmCause, UasmRefused};
 pub use item::{Item, Items, Names};
-pub use laws::lines_spell_operations;
+pub use laws::{lines_spell_operations, operations_have_lines};
 pub use module::Module;
 pub use operand::Operand;
 pub use read::read_module;
+pub use write::write_module;
 
 #[cfg(test)]
 mod tests;

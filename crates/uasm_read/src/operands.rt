@@ -1,17 +1,19 @@
 //! Reads operands.
 
-ghost use Rattle.std.specs.Prelude.{◌≡◌, IfOk, option_map, Some, length, ◌<◌, ◌^◌, ◌+ℤ◌, ◌≤ℤ◌, pos, negsuc, IsTrue, IfSome};
+ghost use Rattle.std.specs.Prelude.{◌≡◌, IfOk, option_map, Some, length, ◌<◌, ◌^◌, ◌+ℤ◌, ◌≤ℤ◌, pos, negsuc, IsTrue, IfSome, None, if◌then◌else◌};
 ghost use Rattle.instr_table.specs.Code.{within, turns, passing};
 ghost use Rattle.uasm_read.specs.declared.operand.Operand.TheVariants as operand;
 ghost use Rattle.uasm_read.specs.Texts.{fixnum_of as fixnum_in, place_of as place_in, parts_of};
 ghost use Rattle.uasm_read.specs.Operations as spec;
+ghost use Rattle.uasm_read.specs.Reading.{shape_of, is_near};
 
 use crate::operand::Operand;
-use crate::operation::Operation;
+use crate::operation::{Operation, Shape};
 use crate::texts::{fixnum_of, name_of, next_part, place_of};
 use std::alloc::{AllocError, Global};
 
-const CONSTANTS: &[u8] =
+/// The constants' names, from number 0 on.
+pub const CONSTANTS: &[u8] =
     b"#? #nil #f #t #type_t #fixnum_t #actor_t #sponsor_t #event_t #instr_t #pair_t #dict_t #deque_t #symbol_t #func_t #block_t";
 
 /// The fixnum, the constant or the name that a part is.
@@ -65,46 +67,26 @@ fn choice(part: &[u8], first: i32, words: &[u8]) -> Option<Operand>
 }
 
 #[tactic(auto, unfolding(crate::specs::Operations::operand_in))]
-fn operand_in(
-    alloc: Global,
-    operation: Operation,
-    part: &[u8],
-) -> Result<Option<Operand>, AllocError>
-    ensures { IfOk result (λ operand. operand ≡ spec.operand_in (spec.row_of operation).operand part.now) }
+fn operand_in(alloc: Global, shape: Shape, part: &[u8]) -> Result<Option<Operand>, AllocError>
+    requires { IsTrue (is_near (shape_of shape)) }
+    ensures { IfOk result (λ operand. operand ≡ spec.operand_in (shape_of shape) part.now) }
 {
-    match operation {
-        Operation::Push | Operation::Typeq | Operation::Eq | Operation::If | Operation::Assert =>
-            value_of(alloc, part),
-        Operation::Dup => Ok(number_within(part, 0, 15)),
-        Operation::Drop => Ok(number_within(part, 0, 4095)),
-        Operation::Pick => Ok(number_within(part, 1, 4095)),
-        Operation::Roll => Ok(turn(part, 15)),
-        Operation::Pair => Ok(number_within(part, 1, 15)),
-        Operation::Part => Ok(number_within(part, 1, 15)),
-        Operation::Nth => Ok(number_within(part, -4095, 4095)),
-        Operation::Quad => Ok(turn(part, 4)),
-        Operation::Get => Ok(number_within(part, 0, 3)),
-        Operation::Cmp => Ok(choice(part, 0, b"eq ge gt lt le ne")),
-        Operation::Alu => Ok(choice(part, 0, b"not and or xor add sub mul")),
-        Operation::Msg => Ok(number_within(part, -4095, 4095)),
-        Operation::State => Ok(number_within(part, -4095, 4095)),
-        Operation::My => Ok(choice(part, 0, b"self beh state")),
-        Operation::Actor => Ok(choice(part, 0, b"send post create assign become")),
-        Operation::End => Ok(choice(part, -1, b"abort stop commit")),
-        Operation::Dict => Ok(choice(part, 0, b"has get add set del")),
-        Operation::Deque => Ok(choice(part, 0, b"new empty push pop put pull len")),
-        Operation::Sponsor => Ok(choice(part, 0, b"new memory events cycles reclaim start stop")),
-        Operation::Depth | Operation::Jump | Operation::Debug => Ok(None),
+    match shape {
+        Shape::Value => value_of(alloc, part),
+        Shape::Nothing => Ok(None),
+        Shape::Within(low, high) => Ok(number_within(part, low, high)),
+        Shape::Turn(most) => Ok(turn(part, most)),
+        Shape::Choice(first, words) => Ok(choice(part, first, words)),
     }
 }
 
-/// Whether the operation stands alone.
-fn is_alone(operation: Operation) -> bool
-    ensures { result ≡ spec.is_alone (spec.row_of operation).operand }
+// The operand of an operation that stands alone.
+fn operand_alone(shape: Shape) -> Option<Operand>
+    ensures { result ≡ (if spec.is_alone (shape_of shape) then Some (operand.Const 0) else None) }
 {
-    match operation {
-        Operation::Depth | Operation::Jump | Operation::Debug => true,
-        _ => false,
+    match shape {
+        Shape::Nothing => Some(Operand::Const(0)),
+        _ => None,
     }
 }
 
@@ -117,15 +99,12 @@ pub fn operand_of(
 ) -> Result<Option<Operand>, AllocError>
     ensures { IfOk result (λ operand. operand ≡ spec.operand_of (spec.row_of operation).operand (parts_of text.now)) }
 {
+    let shape = operation.shape();
     let Some((part, rest)) = next_part(text) else {
-        return Ok(if is_alone(operation) {
-            Some(Operand::Const(0))
-        } else {
-            None
-        });
+        return Ok(operand_alone(shape));
     };
     if next_part(rest).is_some() {
         return Ok(None);
     }
-    operand_in(alloc, operation, part)
+    operand_in(alloc, shape, part)
 }

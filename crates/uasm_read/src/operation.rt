@@ -1,7 +1,9 @@
 //! The operations that lines name.
 
-ghost use Rattle.std.specs.Prelude.{◌≡◌, pos};
+ghost use Rattle.std.specs.Prelude.{◌≡◌, pos, IsTrue};
 ghost use Rattle.uasm_read.specs.Operations as spec;
+ghost use Rattle.uasm_read.specs.Modules.{operation_at};
+ghost use Rattle.uasm_read.specs.Reading.{shape_of, is_near};
 
 /// An operation, by the name that its lines begin with. The variants are in the order of the operations' numbers.
 #[derive(Clone, Copy, Debug, PartialEq, Eq)]
@@ -35,6 +37,21 @@ pub enum Operation {
     Debug,
 }
 
+/// What an operation has as its operand.
+#[derive(Clone, Copy)]
+pub enum Shape {
+    /// A fixnum, a constant or a name.
+    Value,
+    /// None, which is `#?`.
+    Nothing,
+    /// A number from the first to the second one.
+    Within(i32, i32),
+    /// A number of that size at most, but not 0.
+    Turn(u32),
+    /// One of these words, which stand for the numbers from this one on.
+    Choice(i32, &'static [u8]),
+}
+
 const OPERATIONS: [Operation; 27] = [
     Operation::Push,
     Operation::Dup,
@@ -66,7 +83,8 @@ const OPERATIONS: [Operation; 27] = [
 ];
 
 impl Operation {
-    fn name(self) -> &'static [u8]
+    /// The name that its lines begin with.
+    pub fn name(self) -> &'static [u8]
         ensures { result.now ≡ (spec.row_of self).name }
     {
         match self {
@@ -133,6 +151,55 @@ impl Operation {
             Operation::Assert => 25,
             Operation::Debug => 26,
         }
+    }
+
+    /// What it has as its operand.
+    pub fn shape(self) -> Shape
+        ensures value { shape_of result ≡ (spec.row_of self).operand }
+        ensures near { IsTrue (is_near (shape_of result)) }
+    {
+        match self {
+            Operation::Push
+            | Operation::Typeq
+            | Operation::Eq
+            | Operation::If
+            | Operation::Assert => Shape::Value,
+            Operation::Depth | Operation::Jump | Operation::Debug => Shape::Nothing,
+            Operation::Dup => Shape::Within(0, 15),
+            Operation::Drop => Shape::Within(0, 4095),
+            Operation::Pick => Shape::Within(1, 4095),
+            Operation::Roll => Shape::Turn(15),
+            Operation::Pair => Shape::Within(1, 15),
+            Operation::Part => Shape::Within(1, 15),
+            Operation::Nth => Shape::Within(-4095, 4095),
+            Operation::Quad => Shape::Turn(4),
+            Operation::Get => Shape::Within(0, 3),
+            Operation::Cmp => Shape::Choice(0, b"eq ge gt lt le ne"),
+            Operation::Alu => Shape::Choice(0, b"not and or xor add sub mul"),
+            Operation::Msg => Shape::Within(-4095, 4095),
+            Operation::State => Shape::Within(-4095, 4095),
+            Operation::My => Shape::Choice(0, b"self beh state"),
+            Operation::Actor => Shape::Choice(0, b"send post create assign become"),
+            Operation::End => Shape::Choice(-1, b"abort stop commit"),
+            Operation::Dict => Shape::Choice(0, b"has get add set del"),
+            Operation::Deque => Shape::Choice(0, b"new empty push pop put pull len"),
+            Operation::Sponsor => Shape::Choice(0, b"new memory events cycles reclaim start stop"),
+        }
+    }
+
+    /// The operation of that number.
+    #[tactic(auto, unfolding(crate::specs::Modules::operation_at))]
+    pub fn of_number(n: i32) -> Option<Operation>
+        ensures { result ≡ operation_at n }
+    {
+        let mut rest: &[Operation] = &OPERATIONS;
+        while let [operation, more @ ..] = rest {
+            if n == operation.number() {
+                return Some(*operation);
+            }
+            rest = more;
+        }
+        None
     }
 
     /// The operation of that name.

@@ -43,9 +43,9 @@ fn read_lines(alloc: Global, text: &[u8]) -> Result<Vec<Line>, AllocError>
 
 /// The module that a text assembles to.
 ///
-/// A text that assembles to none is refused, with its first line of these and the cause: a text that is longer than 1,048,576 bytes; the
-/// first line that is wrong by itself, that labels nothing, or whose label or import stands before; the first that names what is not
-/// there; the first instruction that goes on at no instruction. Any call may answer `NoMemory`.
+/// A text that assembles to none is refused, with a line and a cause, by the first of these: it has more than 1,048,576 bytes, told at line
+/// 1; the first line with the cause `BadLine`, `NoOperation`, `BadOperand` or `Twice`; the first with the cause `Unknown`; the first with
+/// the cause `FallsOff`. Any call may answer `NoMemory` instead.
 pub fn read_module(alloc: Global, bytes: &[u8]) -> Result<Module, ReadModuleError>
     ensures module { IfOk result (λ m. Assembles (Some text_limit) bytes.now m) }
     ensures refused { (refused : Refusal) → result ≡ Err (error.Refused refused) → assembled (Some text_limit) bytes.now ≡ Err refused }

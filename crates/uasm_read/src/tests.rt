@@ -1,6 +1,9 @@
 //! Worked texts: what each assembles to, and where it is refused.
 
-use crate::{Module, Operand, ReadModuleError, UasmCause, lines_spell_operations, read_module};
+use crate::{
+    Module, Operand, ReadModuleError, UasmCause, lines_spell_operations, operations_have_lines,
+    read_module, write_module,
+};
 use std::alloc::Global;
 use std::test::Fail;
 
@@ -51,7 +54,7 @@ fn is_refused(alloc: Global, text: &[u8], line: u32, cause: UasmCause) -> bool {
     }
 }
 
-const REFUSALS: [(&[u8], u32, UasmCause); 40] = [
+const REFUSALS: [(&[u8], u32, UasmCause); 43] = [
     (b"debug\nfrob 1", 2, UasmCause::NoOperation),
     (b"end commit\n9x", 2, UasmCause::BadLine),
     (b"end commit ; \xC3\xA9", 1, UasmCause::BadLine),
@@ -66,7 +69,10 @@ const REFUSALS: [(&[u8], u32, UasmCause); 40] = [
     (b".bss", 1, UasmCause::BadLine),
     (b"end commit\na:", 2, UasmCause::BadLine),
     (b"end commit\na:\na:\n", 2, UasmCause::BadLine),
-    (b"a:\npush", 2, UasmCause::BadOperand),
+    (b"a:\npush", 1, UasmCause::BadLine),
+    (b"a:\n.export 7", 1, UasmCause::BadLine),
+    (b"end commit\na:\nb: x", 2, UasmCause::BadLine),
+    (b"a:\npush\nend commit", 2, UasmCause::BadOperand),
     (b"ref a", 1, UasmCause::BadLine),
     (b"ref", 1, UasmCause::BadLine),
     (b"a:\ndebug\nref a\nref a", 4, UasmCause::BadLine),
@@ -192,7 +198,54 @@ fn modules(rt: HostRuntime) -> Result<(), Fail> {
     Ok(())
 }
 
+// Texts, and what their modules are written as.
+const WRITTEN: [(&[u8], &[u8]); 12] = [
+    (b"", b""),
+    (b"; nothing\n\n", b""),
+    (
+        b"a: ; first\n .export a\n\tpush\t-007\r\n\nref a\n.import b",
+        b".import b\n.export a\na:\npush -7\nref a\n",
+    ),
+    (
+        b"a:\nb:\n depth\n eq #block_t\n jump",
+        b"a:\nb:\ndepth\neq #block_t\njump\n",
+    ),
+    (
+        b"roll -2\nalu mul\nend abort",
+        b"roll -2\nalu mul\nend abort\n",
+    ),
+    (b"cell #instr_t 21 -1 #?", b"end abort\n"),
+    (b"cell #instr_t 21 -1 0", b"cell #instr_t 21 -1 0\n"),
+    (b"a: \ncell #instr_t 16 #? a", b"a:\njump\nref a\n"),
+    (
+        b"a:\ncell #instr_t 0 a a\ncell #instr_t 0 a #?",
+        b"a:\npush a\nref a\ncell #instr_t 0 a #?\n",
+    ),
+    (
+        b"a:\ncell #instr_t 1 16 a\ncell #instr_t 27 0 a",
+        b"a:\ncell #instr_t 1 16 a\ncell #instr_t 27 0 a\n",
+    ),
+    (
+        b"cell #pair_t 1 #nil #?\ncell #pair_t 1 2 3",
+        b"pair_t 1 #nil\ncell #pair_t 1 2 3\n",
+    ),
+    (
+        b"push ref\nend stop\nref:\npair_t 1 1",
+        b"push ref\nend stop\nref:\npair_t 1 1\n",
+    ),
+];
+
+#[test]
+fn written_texts(rt: HostRuntime) -> Result<(), Fail> {
+    for row in WRITTEN.iter() {
+        let module = read(rt.alloc(), row.0).ok().expect(&rt, "a module");
+        assert_eq!(rt; write_module(rt.alloc(), &module)?.as_slice(), row.1);
+    }
+    Ok(())
+}
+
 #[test]
 fn laws_have_no_body(_rt: HostRuntime) {
     lines_spell_operations();
+    operations_have_lines();
 }

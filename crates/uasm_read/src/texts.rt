@@ -6,6 +6,7 @@ ghost use Rattle.std.specs.List.{list_all, prefix_len, before_first, slice_split
 ghost use Rattle.std.specs.Option.{option_map_or};
 ghost use Rattle.uasm_read.specs.Texts as spec;
 ghost use Rattle.uasm_read.specs.Reading as reading;
+ghost use Rattle.uasm_read.specs.Writes.{part_at};
 
 use cap_words::Name;
 use std::alloc::{AllocError, Global};
@@ -226,4 +227,35 @@ pub fn place_of(part: &[u8], words: &[u8]) -> Option<usize>
         rest = more;
     }
     None
+}
+
+/// The word at a place among some words, counted from 0, and nothing past the last one.
+#[tactic(auto, unfolding(crate::specs::Writes::part_at))]
+pub fn part_at(words: &[u8], place: usize) -> &[u8]
+    ensures { result.now ≡ part_at words.now place }
+{
+    let mut rest = words;
+    let mut left = place;
+    while let Some((word, more)) = next_part(rest) {
+        if left == 0 {
+            return word;
+        }
+        left -= 1;
+        rest = more;
+    }
+    &[]
+}
+
+/// How many words there are.
+pub fn count_parts(words: &[u8]) -> usize
+    ensures value { result ≡ length (spec.parts_of words.now) }
+    ensures within { result ≤ length words.now }
+{
+    let mut rest = words;
+    let mut count = 0;
+    while let Some((_, more)) = next_part(rest) {
+        count += 1;
+        rest = more;
+    }
+    count
 }

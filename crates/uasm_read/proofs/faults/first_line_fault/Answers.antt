@@ -7,7 +7,7 @@ use Rattle.uasm_read.proofs.faults.first_line_fault.Goals as goal
 
 pub loop-rest-init : goal.loop-rest-init
 loop-rest-init c = record {
-  checked = checked_begun c.args.lines.now (holds c.new-names.result) c.count_no_ends-left.result (λ name. rw c.new-names.ensures.empty refl) c.count_no_ends-left.ensures.value;
+  checked = checked_begun c.args.lines.now (holds c.new-names.result) c.count_items-left.result (λ name. rw c.new-names.ensures.empty refl) c.count_items-left.ensures.value;
   within = omega arith;
 }
 
