@@ -1,2 +1,5 @@
 mod Results
 mod Texts
+mod Causes
+mod Gathers
+mod Complete

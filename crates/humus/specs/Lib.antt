@@ -1,3 +1,9 @@
+pub mod Outside
+pub mod Keys
 pub mod Words
 pub mod Report
+pub mod Refusals
+pub mod Link
+pub mod Files
 pub mod Answers
+pub mod Runs

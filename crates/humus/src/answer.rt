@@ -2,8 +2,10 @@
 ghost use Rattle.std.specs.Prelude.{◌≡◌};
 ghost use Rattle.humus.specs.Answers.{status_of};
 
+use crate::refusal::Refusal;
+
 /// What the program answers. For each answer its status, its line on err and its cause are defined in specs/Answers.
-#[derive(Clone, Copy, Debug, PartialEq, Eq)]
+#[derive(Drop)]
 pub enum Answer {
     /// The command was done.
     Done,
@@ -17,14 +19,16 @@ pub enum Answer {
     Fault,
     /// There was no memory.
     NoMemory,
+    /// The contents of files are refused.
+    Refused(Refusal),
     /// A text has a form that is not built yet.
     NotBuilt,
 }
 
 impl Answer {
     /// The exit status.
-    pub fn status(self) -> u8
-        ensures { result ≡ status_of self }
+    pub fn status(&self) -> u8
+        ensures { result ≡ status_of self.now }
     {
         match self {
             Answer::Done => 0,
@@ -33,6 +37,7 @@ impl Answer {
             Answer::TooLong => 3,
             Answer::Fault => 4,
             Answer::NoMemory => 7,
+            Answer::Refused(_) => 10,
             Answer::NotBuilt => 12,
         }
     }
