@@ -1,5 +1,5 @@
 -- Refused commands have their answers' causes.
-use Rattle.std.proofs.Common.{◌≡◌, ℕ, List, [], Option, Some, refl, inl}
+use Rattle.std.proofs.Common.{◌≡◌, ℕ, List, Some, refl, inl}
 use Rattle.hum_outside.specs.Outside.{told}
 use Rattle.humus.specs.Words.{Run, Link, command_of}
 use Rattle.humus.specs.Runs.{RunFails}

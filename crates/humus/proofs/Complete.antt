@@ -1,14 +1,13 @@
 -- Where nothing fails, a command that can be done is done.
-use Rattle.std.proofs.Common.{◌≡◌, ◌⊎◌, ◌∙◌, ◌<◌, ◌≤◌, ℕ, ℤ, List, [], ◌∷◌, length, Option, Some, None, Result, Ok, Err, refl, sym, ap, subst, inl, inr, ⊎_elim, arith}
+use Rattle.std.proofs.Common.{◌≡◌, ◌⊎◌, ◌∙◌, ℕ, List, [], ◌∷◌, Option, Some, None, Ok, refl, sym, ap, subst, inl, inr, ⊎_elim}
 use Rattle.hum_outside.specs.Outside.{Files, told, Rose}
-use Rattle.hum_run.specs.Text.{IsFirstForm}
 use Rattle.uasm_read.specs.Modules.{ModuleParts}
-use Rattle.uasm_read.specs.Links.{LinkFault, link_fault}
+use Rattle.uasm_read.specs.Links.{link_fault}
 use Rattle.humus.specs.Words.{Command, Run, Link, command_of, files_of}
 use Rattle.humus.specs.Outside.{TextIs}
-use Rattle.humus.specs.Link.{AreTold, HaveTexts, BadText, modules_of, RefusedBy}
+use Rattle.humus.specs.Link.{AreTold, HaveTexts, modules_of, RefusedBy}
 use Rattle.humus.specs.Files.{IsAmong}
-use Rattle.humus.specs.Answers.{Call, Answered, BreaksOff, IsTooLong, IsNotBuilt, RunsText, NotRead, RefusesFiles, status_of, text_limit}
+use Rattle.humus.specs.Answers.{Call, Answered, IsTooLong, IsNotBuilt, RunsText, NotRead, RefusesFiles, status_of}
 use Rattle.humus.specs.declared.refusal.Refusal.{Refusal}
 use Rattle.humus.specs.declared.answer.Answer.{Answer}
 use Rattle.humus.specs.declared.answer.Answer.TheVariants.{Done, Usage, Unread, TooLong, Fault, NoMemory, Refused, NotBuilt}
@@ -27,9 +26,9 @@ told_there files [] (text ∷ texts) name are among none = absurd are
 told_there files (other ∷ names) [] name are among none = absurd are
 told_there files (other ∷ names) (text ∷ texts) name are among none =
     ⊎_elim
-      (λ same. let is : told files name ≡ Some (Some text) = ap (told files) (sym same) ∙ are.0 in cc)
-      (λ more. told_there files names texts name are.1 more none)
-      among
+    (λ same. let is : told files name ≡ Some (Some text) = ap (told files) (sym same) ∙ are.0 in cc)
+    (λ more. told_there files names texts name are.1 more none)
+    among
 
 same_texts : (files : Option Files) (names texts others : List (List ℕ)) → AreTold files names texts → HaveTexts files names others → others ≡ texts
 same_texts files [] [] [] are have = refl
@@ -40,43 +39,6 @@ same_texts files (name ∷ names) (text ∷ texts) [] are have = absurd have
 same_texts files (name ∷ names) (text ∷ texts) (other ∷ others) are have =
     let first : text ≡ other = text_of (λ told. told ≡ other) (told files name) text are.0 have.0 in
     let more : others ≡ texts = same_texts files names texts others are.1 have.1 in cc
-
--- ---- `run`
-
-run_read : (files : Option Files) (command : Command) (name other bytes : List ℕ) → Some command ≡ Some (Run name) → IsAmong (files_of command) other
-    → told files name ≡ Some (Some bytes) → told files other ≡ Some None → ⊥
-run_read files (Run name') name other bytes same among is none =
-    ⊎_elim (λ (e : name' ≡ other). let one : name' ≡ name = cc in let moved : told files name ≡ told files other = ap (told files) (sym one ∙ e) in cc) (λ e. absurd e) among
-run_read files (Link names) name other bytes same among is none = cc
-
-run_text : (P : List ℕ → Type 0) (c : Call) (name other bytes : List ℕ) → command_of c.words ≡ Some (Run name) → told c.files name ≡ Some (Some bytes)
-    → RunsText P c other → P bytes
-run_text P c name other bytes asked is runs =
-    let same : Some (Run other) ≡ Some (Run name) = sym runs.asked ∙ asked in
-    let one : other ≡ name = cc in
-    text_of P (told c.files other) bytes (ap (told c.files) one ∙ is) runs.text
-
-pub run_done : (answer : Answer) (c : Call) (name bytes : List ℕ) (numbers : List ℤ) → command_of c.words ≡ Some (Run name)
-    → told c.files name ≡ Some (Some bytes) → length bytes ≤ text_limit → IsFirstForm bytes numbers
-    → ¬ (Rose c.faults_old c.faults_new) → ¬ (Rose c.out.faults_old c.out.faults_new) → ¬ (Rose c.err.faults_old c.err.faults_new)
-    → Answered answer c → (status_of answer ≡ 0) ⊎ (status_of answer ≡ 7)
-run_done Done c name bytes numbers asked is short form no_fault no_out no_err a = inl refl
-run_done NoMemory c name bytes numbers asked is short form no_fault no_out no_err a = inr refl
-run_done Usage c name bytes numbers asked is short form no_fault no_out no_err a = let none = a.0 in absurd (cc)
-run_done Unread c name bytes numbers asked is short form no_fault no_out no_err a =
-    let not_read : NotRead c a.0 = a.1 in
-    absurd (⊎_elim no_fault
-      (λ none. run_read c.files not_read.command name a.0 bytes (sym not_read.asked ∙ asked) not_read.named is none) not_read.cause)
-run_done TooLong c name bytes numbers asked is short form no_fault no_out no_err a =
-    let long : text_limit < length bytes = run_text IsTooLong c name a.0 bytes asked is a.1 in absurd (omega (arith, long, short))
-run_done NotBuilt c name bytes numbers asked is short form no_fault no_out no_err a =
-    let bad : IsNotBuilt bytes = run_text IsNotBuilt c name a.0 bytes asked is a.1 in absurd (bad.1 numbers form)
-run_done (Refused why) c name bytes numbers asked is short form no_fault no_out no_err a =
-    let refuses : RefusesFiles why c a.0 = a.1 in let other = refuses.asked in absurd (cc)
-run_done Fault c name bytes numbers asked is short form no_fault no_out no_err a =
-    absurd (⊎_elim
-      (λ ran. ⊎_elim (λ out. no_out out.output.1) (λ err. no_err err.counts.1) ran.ends)
-      (λ linked. let other = linked.asked in cc) a)
 
 -- ---- `link`
 
@@ -91,9 +53,9 @@ linked_there : (names texts : List (List ℕ)) (modules : List ModuleParts) (why
 linked_there names texts modules why name read sound refused = ⊎_elim
     (λ bad. let other = bad.2 in cc)
     (λ fails.
-      let other = fails.read in
-      let same : fails.modules ≡ modules = cc in
-      let fault : link_fault modules ≡ Some fails.fault = ap link_fault (sym same) ∙ fails.fails in cc) refused
+    let other = fails.read in
+    let same : fails.modules ≡ modules = cc in
+    let fault : link_fault modules ≡ Some fails.fault = ap link_fault (sym same) ∙ fails.fails in cc) refused
 
 pub link_done : (answer : Answer) (c : Call) (names texts : List (List ℕ)) (modules : List ModuleParts) → command_of c.words ≡ Some (Link names)
     → AreTold c.files names texts → modules_of names texts ≡ Ok modules → link_fault modules ≡ None
@@ -105,7 +67,7 @@ link_done Usage c names texts modules asked are read sound no_fault no_out a = l
 link_done Unread c names texts modules asked are read sound no_fault no_out a =
     let not_read : NotRead c a.0 = a.1 in
     absurd (⊎_elim no_fault
-      (λ none. link_read c.files not_read.command names texts a.0 (sym not_read.asked ∙ asked) are not_read.named none) not_read.cause)
+    (λ none. link_read c.files not_read.command names texts a.0 (sym not_read.asked ∙ asked) are not_read.named none) not_read.cause)
 link_done TooLong c names texts modules asked are read sound no_fault no_out a =
     let runs : RunsText IsTooLong c a.0 = a.1 in let other = runs.asked in absurd (cc)
 link_done NotBuilt c names texts modules asked are read sound no_fault no_out a =
@@ -117,6 +79,6 @@ link_done (Refused why) c names texts modules asked are read sound no_fault no_o
     let have = subst (λ (ns : List (List ℕ)). HaveTexts c.files ns refuses.texts) one refuses.have in
     let same : refuses.texts ≡ texts = same_texts c.files names texts refuses.texts are have in
     absurd (linked_there names texts modules why a.0 read sound
-      (subst (λ (ts : List (List ℕ)). RefusedBy names ts why a.0) same (subst (λ (ns : List (List ℕ)). RefusedBy ns refuses.texts why a.0) one refuses.refused)))
+    (subst (λ (ts : List (List ℕ)). RefusedBy names ts why a.0) same (subst (λ (ns : List (List ℕ)). RefusedBy ns refuses.texts why a.0) one refuses.refused)))
 link_done Fault c names texts modules asked are read sound no_fault no_out a =
     absurd (⊎_elim (λ ran. let other = ran.asked in cc) (λ linked. no_out linked.ends.1) a)

@@ -1,5 +1,5 @@
 -- Reading files one after another.
-use Rattle.std.proofs.Common.{◌≡◌, ◌∙◌, ℕ, ◌+◌, ◌<◌, ◌≤◌, List, [], ◌∷◌, ◌++◌, length, Option, Some, None, Result, Ok, Err, refl, sym, ap, subst, inl, inr, ⊎_elim, append_assoc, append-nil, arith}
+use Rattle.std.proofs.Common.{◌≡◌, ◌∙◌, ℕ, ◌+◌, ◌<◌, ◌≤◌, List, [], ◌∷◌, length, Option, Some, None, Result, Ok, Err, refl, sym, ap, subst, inl, inr, ⊎_elim, append_assoc, append-nil, arith}
 use Rattle.std.proofs.lemmas.List.{length-replicate}
 use Rattle.std.proofs.lemmas.Bool.{cond-true, lt-ltb}
 use lib.ListN.{replicate}
@@ -7,8 +7,7 @@ use Rattle.hum_outside.specs.Outside.{Files, told, Rose}
 use Rattle.uasm_read.specs.declared.error.UasmRefused.{UasmRefused}
 use Rattle.uasm_read.specs.declared.error.UasmCause.TheVariants as cause
 use Rattle.uasm_read.specs.Modules.{ModuleParts}
-use Rattle.uasm_read.specs.Assembles.{assembled, assembled_lines, text_limit}
-use Rattle.humus.specs.Outside.{TextIs}
+use Rattle.uasm_read.specs.Assembles.{assembled, text_limit}
 use Rattle.humus.specs.Link.{HaveTexts, BadText, both, of_file, modules_of}
 use Rattle.humus.specs.Files.{IsAmong, Fails, IsRead, ReadTo, LinkFails}
 use Rattle.humus.specs.declared.answer.Answer.{Answer}
@@ -100,7 +99,7 @@ pub gathers-step : (files : Option Files) (names rest more : List (List ℕ)) (s
     → IsRead file read → file ≡ told files name → given ≡ name → next ≡ both so_far (of_file given read) → Gathers files names more next
 gathers-step files names rest more so_far next name given file read split gathers is same called gathered =
     subst (λ (r : Result (List ModuleParts) BadText). Gathers files names more r) (sym (gathered ∙ ap (λ (n : List ℕ). both so_far (of_file n read)) called))
-      (gathers-next name read (subst (λ (ns : List (List ℕ)). Gathers files names ns so_far) split gathers) (subst (λ (f : Option (Option (List ℕ))). IsRead f read) same is))
+    (gathers-next name read (subst (λ (ns : List (List ℕ)). Gathers files names ns so_far) split gathers) (subst (λ (f : Option (Option (List ℕ))). IsRead f read) same is))
 
 pub gathers-last : (files : Option Files) (names rest : List (List ℕ)) (so_far : Result (List ModuleParts) BadText) → rest ≡ []
     → Gathers files names rest so_far → ReadTo files names so_far

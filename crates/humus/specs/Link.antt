@@ -1,12 +1,11 @@
 -- What files are linked to, and why they are not.
-use Rattle.std.specs.Prelude.{◌≡◌, ◌⊎◌, ℕ, List, [], ◌∷◌, ◌++◌, Option, None, Some, Result, Ok, Err}
+use Rattle.std.specs.Prelude.{◌≡◌, ◌⊎◌, ℕ, List, [], ◌∷◌, ◌++◌, Option, Some, Result, Ok, Err}
 use Rattle.hum_outside.specs.Outside.{Files, told}
 use Rattle.quad_memory.specs.Image.{RomImage}
 use Rattle.uasm_read.specs.declared.error.UasmRefused.{UasmRefused}
 use Rattle.uasm_read.specs.Modules.{ModuleParts}
 use Rattle.uasm_read.specs.Assembles.{assembled, text_limit}
 use Rattle.uasm_read.specs.Links.{LinkFault, NameTwice, NoSuchName, BootMissing, Large, link_fault, Linked}
-use Rattle.uasm_image.specs.Spelled.{spelled}
 use Rattle.humus.specs.declared.refusal.Refusal.{Refusal}
 use Rattle.humus.specs.declared.refusal.Refusal.TheVariants.{Module, Twice, NoSuch, NoBoot, TooLarge}
 use Rattle.humus.specs.Outside.{TextIs}

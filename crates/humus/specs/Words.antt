@@ -1,5 +1,5 @@
 -- The forms of the words.
-use Rattle.std.specs.Prelude.{ℕ, ◌&&◌, ◌==◌, nat_le, not, Bool, List, [], ◌∷◌, length, map, codes, Option, None, Some, if◌then◌else◌, option_map, string_bytes}
+use Rattle.std.specs.Prelude.{ℕ, ◌&&◌, ◌==◌, nat_le, not, Bool, List, [], ◌∷◌, length, map, codes, Option, None, Some, if◌then◌else◌, string_bytes}
 use Rattle.std.specs.List.{list_all}
 use Rattle.std.specs.Str.{bytes_eq}
 use Rattle.humus.specs.declared.words.Command.{Command as Told}

@@ -66,28 +66,26 @@ fn link_to<F: Folder, K: Sink>(
     err: &mut K,
 ) -> Answer
     ensures { (words : List (List ℕ)) (last : AnyRecord) →
-      asked.command_of words ≡ Some (asked.Link (map string_bytes names.now)) → Answered result (record {
-      words = words;
-      files = F.files files.old;
-      faults_old = F.faults files.old;
-      faults_new = F.faults files.new;
-      out = writes (K.written out.old) (K.written out.new) (K.faults out.old) (K.faults out.new);
-      err = writes (K.written err.old) (K.written err.new) (K.faults err.old) (K.faults err.new);
-      last_old = last;
-      last_new = last;
-    }) }
+        asked.command_of words ≡ Some (asked.Link (map string_bytes names.now)) → Answered result (record {
+          words = words;
+          files = F.files files.old;
+          faults_old = F.faults files.old;
+          faults_new = F.faults files.new;
+          out = writes (K.written out.old) (K.written out.new) (K.faults out.old) (K.faults out.new);
+          err = writes (K.written err.old) (K.written err.new) (K.faults err.old) (K.faults err.new);
+          last_old = last;
+          last_new = last;
+        }) }
 {
     match link_files(alloc, files, names) {
         Err(refused) => {
             refuse(err, &refused.answer, refused.name);
             refused.answer
         }
-        Ok(bytes) => {
-            if put_all(out, &bytes).is_err() {
-                return Answer::Fault;
-            }
-            Answer::Done
-        }
+        Ok(bytes) => match put_all(out, &bytes) {
+            Ok(_) => Answer::Done,
+            Err(_) => Answer::Fault,
+        },
     }
 }
 

@@ -1,4 +1,4 @@
-use Rattle.std.proofs.Common.{◌≡◌, ◌∙◌, ap, arith, map, string_bytes, Global}
+use Rattle.std.proofs.Common.{◌∙◌, ap, arith, map, string_bytes, Global}
 use Rattle.hum_outside.specs.Outside.{told}
 use Rattle.uasm_read.proofs.Fronts.{behind, front_item, no_item}
 use Rattle.humus.specs.Files.{gathered}
@@ -12,7 +12,7 @@ loop-rest-preserved g c =
     let split = front_item rest c.name-item.result c.in-len1-up.len_at_least c.name-item.is in
     record {
       gathers =
-        gathers-step files (map (string_bytes {Z = Global}) c.args.names.now) (map (string_bytes {Z = Global}) rest) (map (string_bytes {Z = Global}) (behind rest))
+          gathers-step files (map (string_bytes {Z = Global}) c.args.names.now) (map (string_bytes {Z = Global}) rest) (map (string_bytes {Z = Global}) (behind rest))
           (gathered c.loop-rest.all) (gathered c.gather.new.so_far) (string_bytes c.name-item.result) c.as_str-in-len1-up.result.now
           (told (g.F.Folder.files c.loop-rest.files) c.as_str.result.now) c.in-Ok.read
           (ap (map (string_bytes {Z = Global})) split) c.loop-rest.invariant.gathers c.in-Ok.ensures.read
@@ -25,4 +25,4 @@ loop-rest-preserved g c =
 pub returns-clause-read : goal.returns-clause-read
 returns-clause-read g c =
     gathers-last (g.F.Folder.files c.args.files.now) (map (string_bytes {Z = Global}) c.args.names.now) (map (string_bytes {Z = Global}) c.loop-rest.rest.now)
-      (gathered c.loop-rest.all) (ap (map (string_bytes {Z = Global})) (no_item c.loop-rest.rest.now c.in_default.len_below)) c.loop-rest.invariant.gathers
+    (gathered c.loop-rest.all) (ap (map (string_bytes {Z = Global})) (no_item c.loop-rest.rest.now c.in_default.len_below)) c.loop-rest.invariant.gathers
