@@ -11,7 +11,7 @@ use Rattle.uasm_read.specs.Assembles.{assembled, text_limit}
 use Rattle.humus.specs.Link.{HaveTexts, BadText, both, of_file, modules_of}
 use Rattle.humus.specs.Files.{IsAmong, Fails, IsRead, ReadTo, LinkFails}
 use Rattle.humus.specs.declared.answer.Answer.{Answer}
-use Rattle.humus.specs.declared.answer.Answer.TheVariants.{Done, Usage, Unread, TooLong, Fault, NoMemory, Refused, NotBuilt}
+use Rattle.humus.specs.declared.answer.Answer.TheVariants.{Done, Usage, Unread, TooLong, Fault, Spent, Bound, NoMemory, EventFailed, Refused, NotBuilt}
 
 -- ---- lists read in two parts
 
@@ -89,6 +89,9 @@ not_read files before mid now names Done name later among fails = absurd fails
 not_read files before mid now names Usage name later among fails = absurd fails
 not_read files before mid now names TooLong name later among fails = absurd fails
 not_read files before mid now names Fault name later among fails = absurd fails
+not_read files before mid now names (Spent kind) name later among fails = absurd fails
+not_read files before mid now names Bound name later among fails = absurd fails
+not_read files before mid now names EventFailed name later among fails = absurd fails
 not_read files before mid now names (Refused why) name later among fails = absurd fails
 not_read files before mid now names NotBuilt name later among fails = absurd fails
 

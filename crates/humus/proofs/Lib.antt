@@ -3,3 +3,7 @@ mod Texts
 mod Causes
 mod Gathers
 mod Complete
+mod Turned
+mod Driven
+mod Failures
+mod Executed

@@ -6,16 +6,20 @@ use Rattle.quad_memory.specs.Image.{RomImage}
 use Rattle.uasm_image.specs.Spelled.{spelled}
 use Rattle.hum_run.specs.Text.{IsFirstForm}
 use Rattle.hum_run.specs.Run.{RunState, started, done, output_of, report_of, Breaks}
-use Rattle.humus.specs.Words.{Command, Run, Link, command_of, files_of}
+use Rattle.humus.specs.Words.{Command, Run, Link, Exec, command_of, files_of}
 use Rattle.humus.specs.Outside.{Writes, Wrote, WroteFront, Said, Silent, TextIs}
 use Rattle.humus.specs.Report.{counts_line}
 use Rattle.humus.specs.Refusals.{refusal_line}
 use Rattle.humus.specs.Link.{HaveTexts, LinkTo, RefusedBy}
 use Rattle.humus.specs.Files.{IsAmong}
+use Rattle.humus.specs.Load.{Loads, Unloaded}
+use Rattle.humus.specs.Exec.{IsOf, Runs}
+use Rattle.humus.specs.declared.keys.Keys.{Keys}
+use Rattle.vm_machine.specs.Machine.{Machine}
 use Rattle.humus.specs.declared.record.Record.{Record}
 use Rattle.humus.specs.declared.refusal.Refusal.{Refusal}
 use Rattle.humus.specs.declared.answer.Answer.{Answer}
-use Rattle.humus.specs.declared.answer.Answer.TheVariants.{Done, Usage, Unread, TooLong, Fault, NoMemory, Refused, NotBuilt}
+use Rattle.humus.specs.declared.answer.Answer.TheVariants.{Done, Usage, Unread, TooLong, Fault, Spent, Bound, NoMemory, EventFailed, Refused, NotBuilt}
 
 -- the exit status of the program
 abbrev pub status_of : Answer → ℕ
@@ -24,7 +28,10 @@ status_of Usage = 1
 status_of Unread = 2
 status_of TooLong = 3
 status_of Fault = 4
+status_of (Spent kind) = 5
+status_of Bound = 6
 status_of NoMemory = 7
+status_of EventFailed = 9
 status_of (Refused why) = 10
 status_of NotBuilt = 12
 
@@ -35,6 +42,9 @@ line_of Usage name = codes "usage: humus COMMAND FILE.. [KEY=N..]\n"
 line_of Unread name = concat (codes "cannot read " ∷ name ∷ codes "\n" ∷ [])
 line_of TooLong name = concat (name ∷ codes ": text too long\n" ∷ [])
 line_of Fault name = []
+line_of (Spent kind) name = []
+line_of Bound name = []
+line_of EventFailed name = []
 line_of NoMemory name = codes "no memory\n"
 line_of (Refused why) name = refusal_line why name
 line_of NotBuilt name = concat (name ∷ codes ": not built yet\n" ∷ [])
@@ -112,6 +122,22 @@ pub record Linked (c : Call) (Ends : Writes → RomImage → Type 0) : Type 0 wh
   pub silent : Silent c.err
   pub last : c.last_new ≡ c.last_old
 
+-- ---- `exec`
+
+-- the words run the image that a file holds; its machine was left in the record, and this answer says what was written
+pub record Executed (answer : Answer) (c : Call) : Type 0 where
+  pub name : List ℕ
+  pub keys : Keys
+  pub asked : command_of c.words ≡ Some (Exec name keys)
+  pub bytes : List ℕ
+  pub text : TextIs (λ told. told ≡ bytes) (told c.files name)
+  pub image : RomImage
+  pub loads : Loads bytes image
+  pub machine : Machine
+  pub left : c.last_new ≡ record c.last_old { machine = Some machine }
+  pub of : IsOf keys image machine
+  pub ends : Runs answer keys.bound machine c.out c.err
+
 -- ---- refusals
 
 -- nothing ran: out and the record are as they were, and err has the line of the refusal
@@ -152,17 +178,32 @@ pub record RefusesFiles (why : Refusal) (c : Call) (name : List ℕ) : Type 0 wh
   pub have : HaveTexts c.files names texts
   pub refused : RefusedBy names texts why name
 
+-- the words run the image of a file, which holds none
+pub record RefusesFile (why : Refusal) (c : Call) (name : List ℕ) : Type 0 where
+  pub keys : Keys
+  pub asked : command_of c.words ≡ Some (Exec name keys)
+  pub bytes : List ℕ
+  pub text : TextIs (λ told. told ≡ bytes) (told c.files name)
+  pub refused : Unloaded why bytes
+
+-- the contents of files are refused
+abbrev pub Refuses : Refusal → Call → List ℕ → Type 0
+Refuses why c name = RefusesFiles why c name ⊎ RefusesFile why c name
+
 -- an answer for a cause that names a file
 abbrev pub DeclinesFor : (Call → List ℕ → Type 0) → Answer → Call → Type 0
 DeclinesFor Cause answer c = (name : List ℕ) × Cause c name × Declines answer c name
 
 -- why each answer comes, and what it leaves
 abbrev pub Answered : Answer → Call → Type 0
-Answered Done c = Ran c Completes ⊎ Linked c WritesImage
-Answered Fault c = Ran c BreaksOff ⊎ Linked c WritesFront
+Answered Done c = Ran c Completes ⊎ Linked c WritesImage ⊎ Executed Done c
+Answered Fault c = Ran c BreaksOff ⊎ Linked c WritesFront ⊎ Executed Fault c
+Answered (Spent kind) c = Executed (Spent kind) c
+Answered Bound c = Executed Bound c
+Answered EventFailed c = Executed EventFailed c
 Answered Usage c = (command_of c.words ≡ None) × Declines Usage c []
 Answered Unread c = DeclinesFor NotRead Unread c
 Answered TooLong c = DeclinesFor (RunsText IsTooLong) TooLong c
 Answered NotBuilt c = DeclinesFor (RunsText IsNotBuilt) NotBuilt c
-Answered (Refused why) c = DeclinesFor (RefusesFiles why) (Refused why) c
+Answered (Refused why) c = DeclinesFor (Refuses why) (Refused why) c
 Answered NoMemory c = Asks c × Declines NoMemory c []

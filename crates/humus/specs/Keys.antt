@@ -1,8 +1,9 @@
 -- The keys of a run: words `KEY=N`.
-use Rattle.std.specs.Prelude.{ℕ, ◌+◌, ◌*◌, ◌-◌, nat_le, nat_eq, Bool, true, not, ◌&&◌, if◌then◌else◌, List, [], ◌∷◌, length, drop, codes, Option, None, Some, is_some, unwrap_or}
+use Rattle.std.specs.Prelude.{◌≡◌, ℕ, ◌≤◌, ◌+◌, ◌*◌, ◌-◌, nat_le, nat_eq, Bool, true, not, ◌&&◌, if◌then◌else◌, List, [], ◌∷◌, length, drop, codes, Option, None, Some, is_some, unwrap_or}
 use Rattle.std.specs.Option.{option_or}
 use Rattle.std.specs.Char.{is_ascii_digit}
 use Rattle.std.specs.List.{list_any, starts_with}
+use Rattle.vm_sponsor.specs.Grant.{is_grant}
 use Rattle.humus.specs.declared.keys.Key.{Key}
 use Rattle.humus.specs.declared.keys.Key.TheVariants.{Memory, Events, Cycles, Lanes, Seed, Bound}
 use Rattle.humus.specs.declared.keys.Keys.{Keys}
@@ -68,6 +69,12 @@ are_keys (word ∷ words) = gives_one word words && are_keys words
 -- the number that words give a key, or else its default
 abbrev pub number_or : Key → List (List ℕ) → ℕ → ℕ
 number_or key words default = unwrap_or (number_in key words) default
+
+-- the keys are within the limits of a machine
+pub record WithinLimits (keys : Keys) : Type 0 where
+  pub granted : is_grant keys.memory keys.events keys.cycles ≡ true
+  pub some_lanes : 1 ≤ keys.lanes
+  pub lanes_limit : keys.lanes ≤ 64
 
 -- the keys that words give, in any order; a key that they do not give has its default
 abbrev pub keys_of : List (List ℕ) → Option Keys

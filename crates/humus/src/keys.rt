@@ -1,5 +1,5 @@
 // The keys of a run.
-ghost use Rattle.std.specs.Prelude.{◌≡◌, ◌≤◌, map, length, drop, is_some, IfSome, string_bytes};
+ghost use Rattle.std.specs.Prelude.{◌≡◌, map, true, IfSome, string_bytes};
 ghost use Rattle.humus.specs.Keys as spec;
 
 /// What a word `KEY=N` gives a number to.
@@ -81,7 +81,8 @@ fn number_of(digits: &[u8]) -> Option<u32>
 
 // The number that a word gives a key.
 fn number_for(key: Key, word: &[u8]) -> Option<u32>
-    ensures { result ≡ spec.number_for key word.now }
+    ensures value { result ≡ spec.number_for key word.now }
+    ensures takes { IfSome result (λ n. spec.takes key n ≡ true) }
 {
     let front = key.front();
     if !word.starts_with(front) {
@@ -97,7 +98,8 @@ fn number_for(key: Key, word: &[u8]) -> Option<u32>
 
 // The number that the first of the words gives a key that gives it one.
 fn number_in(key: Key, words: &[String]) -> Option<u32>
-    ensures { result ≡ spec.number_in key (map string_bytes words.now) }
+    ensures value { result ≡ spec.number_in key (map string_bytes words.now) }
+    ensures takes { IfSome result (λ n. spec.takes key n ≡ true) }
 {
     match words {
         [] => None,
@@ -138,15 +140,21 @@ fn gives_one(word: &[u8], words: &[String]) -> bool
 
 // The number that the words give a key, or else its default.
 fn number_or(key: Key, words: &[String], default: u32) -> u32
-    ensures { result ≡ spec.number_or key (map string_bytes words.now) default }
+    requires { spec.takes key default ≡ true }
+    ensures value { result ≡ spec.number_or key (map string_bytes words.now) default }
+    ensures takes { spec.takes key result ≡ true }
 {
-    number_in(key, words).unwrap_or(default)
+    match number_in(key, words) {
+        Some(number) => number,
+        None => default,
+    }
 }
 
 /// The keys that the words give, each at most once and in any order, and the defaults of the others; None where a word gives none, or a
 /// key gets two numbers.
 pub fn keys_of(words: &[String]) -> Option<Keys>
-    ensures { result ≡ spec.keys_of (map string_bytes words.now) }
+    ensures value { result ≡ spec.keys_of (map string_bytes words.now) }
+    ensures limits { IfSome result spec.WithinLimits }
 {
     if !are_keys(words) {
         return None;

@@ -128,8 +128,8 @@ fn read_files<'a, F: Folder>(
     Ok(all)
 }
 
-// The image of modules.
-fn image_of(alloc: Global, modules: &[Module]) -> Result<Image, Answer>
+/// The image of modules.
+pub fn image_of(alloc: Global, modules: &[Module]) -> Result<Image, Answer>
     ensures image { IfOk result (λ image. Linked modules.now image.boot image.cells) }
     ensures fails { IfErr result (NotLinked (link_fault modules.now)) }
 {

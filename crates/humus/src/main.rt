@@ -1,11 +1,16 @@
-//! `humus run FILE` runs a Humus text; `humus link FILE FILE ..` links modules of assembly to an image.
+//! `humus run FILE` runs a Humus text; `humus link FILE FILE ..` links modules of assembly to an image;
+//! `humus exec FILE KEYS` runs an image, or a module that links alone.
 //!
 //! `humus_main` does what the words say over any folder and sinks; `main` calls it with the real ones.
 #![tactic(auto)]
 
 mod answer;
+mod drive;
+mod exec;
+mod failure;
 mod keys;
 mod link;
+mod load;
 mod record;
 mod refusal;
 mod report;

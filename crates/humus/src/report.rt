@@ -8,7 +8,7 @@ ghost use Rattle.humus.specs.Refusals.{refusal_line};
 ghost use Rattle.humus.specs.Answers.{line_of};
 
 use crate::answer::Answer;
-use crate::refusal::{Refusal, cause_text};
+use crate::refusal::{Refusal, cause_text, image_cause_text};
 use hum_outside::{Failed, Sink, put_parts};
 use hum_run::Report;
 use itoa::Buffer;
@@ -45,7 +45,11 @@ pub fn refuse<K: Sink>(err: &mut K, answer: &Answer, name: &str)
 {
     let name = name.as_bytes();
     match answer {
-        Answer::Done | Answer::Fault => {}
+        Answer::Done
+        | Answer::Fault
+        | Answer::Spent(_)
+        | Answer::Bound
+        | Answer::EventFailed => {}
         Answer::Usage => say(err, &[b"usage: humus COMMAND FILE.. [KEY=N..]\n"]),
         Answer::Unread => say(err, &[b"cannot read ", name, b"\n"]),
         Answer::TooLong => say(err, &[name, b": text too long\n"]),
@@ -60,6 +64,12 @@ fn refuse_contents<K: Sink>(err: &mut K, why: &Refusal, name: &[u8])
     ensures { Said (writes (K.written err.old) (K.written err.new) (K.faults err.old) (K.faults err.new)) (refusal_line why.now name.now) }
 {
     match why {
+        Refusal::FileTooLong => say(err, &[name, b": file too long\n"]),
+        Refusal::Image(place) => {
+            let mut at = Buffer::new();
+            let at = at.format(place.at).as_bytes();
+            say_image(err, name, at, image_cause_text(place.cause));
+        }
         Refusal::Module(at) => {
             let mut line = Buffer::new();
             let line = line.format(at.line).as_bytes();
@@ -77,6 +87,16 @@ fn say_at<'a, K: Sink>(err: &mut K, name: &'a [u8], line: &'a [u8], cause: &'a [
     ensures { Said (writes (K.written err.old) (K.written err.new) (K.faults err.old) (K.faults err.new)) (concat (name.now ∷ codes ":" ∷ line.now ∷ codes ": " ∷ cause.now ∷ codes "\n" ∷ [])) }
 {
     say(err, &[name, b":", line, b": ", cause, b"\n"]);
+}
+
+// Writes what is said of a place in the image of that name.
+fn say_image<'a, K: Sink>(err: &mut K, name: &'a [u8], at: &'a [u8], cause: &'a [u8])
+    ensures { Said (writes (K.written err.old) (K.written err.new) (K.faults err.old) (K.faults err.new)) (concat (name.now ∷ codes ": image refused at " ∷ at.now ∷ codes ": " ∷ cause.now ∷ codes "\n" ∷ [])) }
+{
+    say(
+        err,
+        &[name, b": image refused at ", at, b": ", cause, b"\n"],
+    );
 }
 
 // Writes a line, and lets a fault pass.

@@ -5,6 +5,7 @@ ghost use Rattle.uasm_read.specs.Modules.{ModuleParts};
 ghost use Rattle.uasm_read.specs.Links.{link_fault};
 ghost use Rattle.hum_run.specs.Text.{IsFirstForm};
 ghost use Rattle.humus.specs.Outside.{writes};
+ghost use Rattle.humus.specs.Keys.{WithinLimits};
 ghost use Rattle.humus.specs.Words as asked;
 ghost use Rattle.humus.specs.Link.{AreTold, modules_of};
 ghost use Rattle.humus.specs.Answers.{Answered, status_of, text_limit};
@@ -12,7 +13,10 @@ ghost use Rattle.humus.specs.declared.answer.Answer.{Answer as AnyAnswer};
 ghost use Rattle.humus.specs.declared.record.Record.{Record as AnyRecord};
 
 use crate::answer::Answer;
+use crate::exec::{booted, run_machine};
+use crate::keys::Keys;
 use crate::link::link_files;
+use crate::load::load_file;
 use crate::record::Record;
 use crate::report::refuse;
 use crate::run::{finish, load_run};
@@ -89,6 +93,49 @@ fn link_to<F: Folder, K: Sink>(
     }
 }
 
+// Runs the image that a file holds.
+fn exec_file<F: Folder, K: Sink>(
+    alloc: Global,
+    name: &str,
+    keys: Keys,
+    files: &mut F,
+    out: &mut K,
+    err: &mut K,
+    last: &mut Record,
+) -> Answer
+    requires { WithinLimits keys }
+    ensures { (words : List (List ℕ)) → asked.command_of words ≡ Some (asked.Exec name.now keys) → Answered result (record {
+      words = words;
+      files = F.files files.old;
+      faults_old = F.faults files.old;
+      faults_new = F.faults files.new;
+      out = writes (K.written out.old) (K.written out.new) (K.faults out.old) (K.faults out.new);
+      err = writes (K.written err.old) (K.written err.new) (K.faults err.old) (K.faults err.new);
+      last_old = last.old;
+      last_new = last.new;
+    }) }
+{
+    let image = match load_file(alloc, files, name) {
+        Ok(image) => image,
+        Err(answer) => {
+            refuse(err, &answer, name);
+            return answer;
+        }
+    };
+    match booted(alloc, &image, keys) {
+        Ok(machine) => {
+            let mut machine = machine;
+            let answer = run_machine(&mut machine, keys, out, err);
+            last.leave_machine(machine);
+            answer
+        }
+        Err(_) => {
+            refuse(err, &Answer::NoMemory, name);
+            Answer::NoMemory
+        }
+    }
+}
+
 // Does what the words say.
 fn answer<F: Folder, K: Sink>(
     alloc: Global,
@@ -116,14 +163,17 @@ fn answer<F: Folder, K: Sink>(
         }
         Some(Command::Run(name)) => run_text(alloc, name, files, out, err, last),
         Some(Command::Link(names)) => link_to(alloc, names, files, out, err),
+        Some(Command::Exec(name, keys)) => exec_file(alloc, name, keys, files, out, err, last),
     }
 }
 
-/// Does what the words say over these files and sinks, and gives the exit status; `last` is left the run, if one was started.
+/// Does what the words say over these files and sinks, and gives the exit status; `last` is left the run or the machine, if one was
+/// started.
 ///
-/// The words are `run FILE` or `link FILE FILE ..`. The statuses, their causes and what each leaves are the definitions of specs/Answers:
-/// 0 done, 1 the words have no form, 2 a file could not be read, 3 a text is too long, 4 a write failed, 7 no memory, 10 a module or
-/// linking is refused, 12 the text has a form that is not built yet.
+/// The words are `run FILE`, `link FILE FILE ..` or `exec FILE KEYS`. The statuses, their causes and what each leaves are the definitions
+/// of specs/Answers: 0 done, 1 the words have no form, 2 a file could not be read, 3 a text is too long, 4 a write failed, 5 the root ran
+/// out, 6 the bound is reached, 7 no memory, 9 an event failed, 10 an image, a module or linking is refused, 12 the text has a form that
+/// is not built yet.
 pub fn humus_main<F: Folder, K: Sink>(
     alloc: Global,
     words: &[String],
