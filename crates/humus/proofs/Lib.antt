@@ -1,2 +1,5 @@
 mod Results
 mod Texts
+mod Turned
+mod Driven
+mod Failures

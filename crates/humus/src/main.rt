@@ -4,6 +4,8 @@
 #![tactic(auto)]
 
 mod answer;
+mod drive;
+mod failure;
 mod report;
 mod top;
 
@@ -42,5 +44,7 @@ fn main(rt: HostRuntime) -> ExitCode {
     ))
 }
 
+#[cfg(test)]
+mod drive_tests;
 #[cfg(test)]
 mod tests;
