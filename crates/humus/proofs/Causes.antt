@@ -6,7 +6,7 @@ use Rattle.humus.specs.Runs.{RunFails}
 use Rattle.humus.specs.Files.{LinkFails}
 use Rattle.humus.specs.Loads.{FileFails}
 use Rattle.humus.specs.declared.keys.Keys.{Keys}
-use Rattle.humus.specs.Answers.{Call, Declines, Answered}
+use Rattle.humus.specs.Answers.{Call, Declines, Executed, Answered}
 use Rattle.humus.specs.declared.answer.Answer.{Answer}
 use Rattle.humus.specs.declared.answer.Answer.TheVariants.{Done, Usage, Unread, TooLong, Fault, Spent, Bound, NoMemory, EventFailed, Refused, NotBuilt}
 
@@ -53,3 +53,16 @@ declined_exec Fault c name keys asked fails d = absurd fails
 declined_exec (Spent kind) c name keys asked fails d = absurd fails
 declined_exec Bound c name keys asked fails d = absurd fails
 declined_exec EventFailed c name keys asked fails d = absurd fails
+
+pub executed : (answer : Answer) (c : Call) → Executed answer c → Answered answer c
+executed Done c e = inr (inr e)
+executed Fault c e = inr (inr e)
+executed (Spent kind) c e = e
+executed Bound c e = e
+executed EventFailed c e = e
+executed Usage c e = absurd e.ends
+executed Unread c e = absurd e.ends
+executed TooLong c e = absurd e.ends
+executed NoMemory c e = absurd e.ends
+executed (Refused why) c e = absurd e.ends
+executed NotBuilt c e = absurd e.ends

@@ -8,6 +8,7 @@ use Rattle.uasm_read.specs.declared.error.UasmRefused.{UasmRefused}
 use Rattle.uasm_read.specs.declared.error.UasmCause.TheVariants as cause
 use Rattle.uasm_read.specs.Modules.{ModuleParts}
 use Rattle.uasm_read.specs.Assembles.{assembled, text_limit}
+use Rattle.humus.specs.Outside.{TextIs}
 use Rattle.humus.specs.Link.{HaveTexts, BadText, both, of_file, modules_of}
 use Rattle.humus.specs.Files.{IsAmong, Fails, IsRead, ReadTo, LinkFails}
 use Rattle.humus.specs.declared.answer.Answer.{Answer}
@@ -37,11 +38,16 @@ longer n = (replicate (n + 1) 0, omega (arith, length-replicate {A = ℕ} (n + 1
 long : (text : List ℕ) → text_limit < length text → Err (record { line = 1; cause = cause.TooLong }) ≡ assembled (Some text_limit) text
 long text more = sym (cond-true _ _ _ (lt-ltb text_limit (length text) more))
 
+-- a file that is read to be too long has such a text, as far as it is told
+pub told_longer : (limit : ℕ) (file : Option (Option (List ℕ))) → ((bytes : List ℕ) → file ≡ Some (Some bytes) → limit < length bytes)
+    → (file ≡ Some None → ⊥) → (text : List ℕ) × TextIs (λ told. told ≡ text) file × (limit < length text)
+told_longer limit None is absent = let witness = longer limit in (witness.0, tt, witness.1)
+told_longer limit (Some None) is absent = absurd (absent refl)
+told_longer limit (Some (Some bytes)) is absent = (bytes, refl, is bytes refl)
+
 pub read_long : (file : Option (Option (List ℕ))) → ((bytes : List ℕ) → file ≡ Some (Some bytes) → text_limit < length bytes)
     → (file ≡ Some None → ⊥) → IsRead file (Err (record { line = 1; cause = cause.TooLong }))
-read_long None is absent = let witness = longer text_limit in (witness.0, tt, long witness.0 witness.1)
-read_long (Some None) is absent = absurd (absent refl)
-read_long (Some (Some bytes)) is absent = (bytes, refl, long bytes (is bytes refl))
+read_long file is absent = let told = told_longer text_limit file is absent in (told.0, told.1, long told.0 told.2)
 
 -- ---- the files in order
 

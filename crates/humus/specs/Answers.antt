@@ -207,3 +207,7 @@ Answered TooLong c = DeclinesFor (RunsText IsTooLong) TooLong c
 Answered NotBuilt c = DeclinesFor (RunsText IsNotBuilt) NotBuilt c
 Answered (Refused why) c = DeclinesFor (Refuses why) (Refused why) c
 Answered NoMemory c = Asks c × Declines NoMemory c []
+
+-- the statuses of a run of an accepted file where nothing fails: the last one only with a bound
+abbrev pub EndsRun : Option ℕ → ℕ → Type 0
+EndsRun bound status = (status ≡ 0) ⊎ (status ≡ 5) ⊎ (status ≡ 7) ⊎ (status ≡ 9) ⊎ ((status ≡ 6) × (n : ℕ) × (bound ≡ Some n))

@@ -165,8 +165,8 @@ fn count_committed(journal: &[Entry]) -> usize
         .count()
 }
 
-// How many entries are of events that failed.
-fn count_failed(journal: &[Entry]) -> usize
+/// How many entries are of events that failed.
+pub fn count_failed(journal: &[Entry]) -> usize
     ensures { result ≡ count_of is_failed journal.now }
 {
     journal

@@ -49,12 +49,7 @@ fn answer_of(machine: &Machine, stop: Stop) -> Answer
 }
 
 /// Takes the turns of a machine that was booted, and writes the lines of its run.
-pub fn run_machine<K: Sink>(
-    machine: &mut Machine,
-    keys: Keys,
-    out: &mut K,
-    err: &mut K,
-) -> Answer
+pub fn run_machine<K: Sink>(machine: &mut Machine, keys: Keys, out: &mut K, err: &mut K) -> Answer
     requires fresh { Fresh machine.old }
     ensures runs { Runs result keys.bound machine.new
         (writes (K.written out.old) (K.written out.new) (K.faults out.old) (K.faults out.new))

@@ -55,4 +55,6 @@ fn main(rt: HostRuntime) -> ExitCode {
 }
 
 #[cfg(test)]
+mod drive_tests;
+#[cfg(test)]
 mod tests;

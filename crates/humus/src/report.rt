@@ -45,11 +45,7 @@ pub fn refuse<K: Sink>(err: &mut K, answer: &Answer, name: &str)
 {
     let name = name.as_bytes();
     match answer {
-        Answer::Done
-        | Answer::Fault
-        | Answer::Spent(_)
-        | Answer::Bound
-        | Answer::EventFailed => {}
+        Answer::Done | Answer::Fault | Answer::Spent(_) | Answer::Bound | Answer::EventFailed => {}
         Answer::Usage => say(err, &[b"usage: humus COMMAND FILE.. [KEY=N..]\n"]),
         Answer::Unread => say(err, &[b"cannot read ", name, b"\n"]),
         Answer::TooLong => say(err, &[name, b": text too long\n"]),

@@ -8,7 +8,10 @@ ghost use Rattle.humus.specs.Outside.{writes};
 ghost use Rattle.humus.specs.Keys.{WithinLimits};
 ghost use Rattle.humus.specs.Words as asked;
 ghost use Rattle.humus.specs.Link.{AreTold, modules_of};
-ghost use Rattle.humus.specs.Answers.{Answered, status_of, text_limit};
+ghost use Rattle.humus.specs.Load.{Loads};
+ghost use Rattle.humus.specs.declared.keys.Keys.{Keys as AnyKeys};
+ghost use Rattle.quad_memory.specs.Image.{RomImage};
+ghost use Rattle.humus.specs.Answers.{Answered, EndsRun, status_of, text_limit};
 ghost use Rattle.humus.specs.declared.answer.Answer.{Answer as AnyAnswer};
 ghost use Rattle.humus.specs.declared.record.Record.{Record as AnyRecord};
 
@@ -208,6 +211,14 @@ pub fn humus_main<F: Folder, K: Sink>(
         modules_of names texts ≡ Ok modules → link_fault modules ≡ None →
         ¬ (Rose (F.faults files.old) (F.faults files.new)) →
         ¬ (Rose (K.faults out.old) (K.faults out.new)) → (result ≡ 0) ⊎ (result ≡ 7) }
+
+    // A file that holds an image is run: to rest, until the root runs out, or to the bound, where no count rises and there is memory.
+    ensures runs { (name bytes : List ℕ) (keys : AnyKeys) (image : RomImage) →
+        asked.command_of (map string_bytes words.now) ≡ Some (asked.Exec name keys) → told (F.files files.old) name ≡ Some (Some bytes) →
+        Loads bytes image →
+        ¬ (Rose (F.faults files.old) (F.faults files.new)) →
+        ¬ (Rose (K.faults out.old) (K.faults out.new)) →
+        ¬ (Rose (K.faults err.old) (K.faults err.new)) → EndsRun keys.bound result }
 {
     let answer = answer(alloc, words, files, out, err, last);
     answer.status()

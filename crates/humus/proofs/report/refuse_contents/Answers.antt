@@ -1,7 +1,7 @@
 use Rattle.humus.proofs.report.refuse_contents.Goals as goal
 
 pub returns-in-Twice : goal.returns-in-Twice
-returns-in-Twice g c = rw (c.in-Twice.is, ← c.bytes.ensures.value) c.say.ensures
+returns-in-Twice g c = rw (c.in-Twice.is, ← c.bytes.ensures.value) c.say-in-Twice.ensures
 
 pub returns-in-NoSuch : goal.returns-in-NoSuch
 returns-in-NoSuch g c = rw (c.in-NoSuch.is, ← c.bytes-in-NoSuch.ensures.value) c.say-in-NoSuch.ensures

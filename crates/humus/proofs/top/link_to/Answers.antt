@@ -1,4 +1,4 @@
-use Rattle.std.proofs.Common.{◌∙◌, refl, ap, subst, inr, ℕ, List, map, string_bytes, Global}
+use Rattle.std.proofs.Common.{◌∙◌, refl, ap, subst, inl, inr, ℕ, List, map, string_bytes, Global}
 use Rattle.hum_outside.specs.Outside.{appended, AppendsFront}
 use Rattle.humus.specs.Outside.{writes}
 use Rattle.humus.proofs.Causes.{declined_link}
@@ -23,7 +23,7 @@ returns-in-Err g c = λ words last asked.
 pub returns-in-Ok-put_all : goal.returns-in-Ok-put_all
 returns-in-Ok-put_all g c = λ words last asked.
     let linked = c.in-Ok.ensures.bytes in
-    inr (record {
+    inr (inl (record {
       names = map (string_bytes {Z = Global}) c.args.names.now;
       asked = asked;
       texts = linked.0;
@@ -33,13 +33,13 @@ returns-in-Ok-put_all g c = λ words last asked.
       ends = c.in-Ok-put_all.ensures.all ∙ ap (appended (g.K.Sink.written c.args.out.now)) (c.deref.ensures.value ∙ linked.4);
       silent = refl {a = g.K.Sink.written c.args.err.now};
       last = refl {a = last};
-    })
+    }))
 
 pub returns : goal.returns
 returns g c = λ words last asked.
     let w = g.K.Sink.written in
     let linked = c.in-Ok.ensures.bytes in
-    inr (record {
+    inr (inl (record {
       names = map (string_bytes {Z = Global}) c.args.names.now;
       asked = asked;
       texts = linked.0;
@@ -52,4 +52,4 @@ returns g c = λ words last asked.
       );
       silent = refl {a = g.K.Sink.written c.args.err.now};
       last = refl {a = last};
-    })
+    }))
