@@ -1,13 +1,11 @@
 -- What one turn comes to, and what several come to.
-use Rattle.std.proofs.Common.{◌≡◌, ◌≤◌, ℕ, suc, ◌+◌, List, [], ◌∷◌, ◌++◌, length, Option, Some, None, Bool, true, false, Result, Ok, Err, refl, sym, ap, ◌∙◌, subst, arith, append-nil, append_assoc}
-use Rattle.std.specs.List.{flat_map}
+use Rattle.std.proofs.Common.{◌≡◌, ℕ, suc, ◌+◌, List, [], ◌∷◌, ◌++◌, Option, Some, None, Bool, true, false, Ok, refl, sym, ap, ◌∙◌, subst, arith, append-nil, append_assoc}
 use Rattle.std.proofs.lemmas.List.Concat.{flat_map-append}
 use Rattle.hum_outside.specs.Outside.{AppendsFront, appended}
 use Rattle.hum_outside.proofs.Fronts.{appended-appended}
 use Rattle.quad_memory.specs.Image.{RomImage}
 use Rattle.instr_table.specs.declared.charge.Quota.{Quota}
 use Rattle.vm_sponsor.specs.declared.amounts.Amounts.{Amounts}
-use Rattle.vm_devices.specs.declared.delivery.WriteFault.{WriteFault}
 use Rattle.vm_turn.specs.declared.journal.Entry.{Entry}
 use Rattle.vm_turn.specs.declared.journal.Outcome.TheVariants.{RanOut}
 use Rattle.vm_turn.specs.declared.journal.Turn.{Turn as Answer}

@@ -1,5 +1,5 @@
 -- What a turn writes and adds to the journal, and where it is the last.
-use Rattle.std.proofs.Common.{◌≡◌, ◌≤◌, ◌<◌, ◌%◌, ℕ, suc, List, [], ◌∷◌, ◌++◌, length, Option, Some, None, Bool, true, false, refl, sym, ap, ◌∙◌, subst, arith, append-nil}
+use Rattle.std.proofs.Common.{◌≡◌, ◌%◌, ℕ, List, [], ◌∷◌, ◌++◌, length, Option, Some, None, Bool, true, false, refl, sym, ap, ◌∙◌, subst, arith, append-nil}
 use Rattle.std.specs.Prelude.{slice_get}
 use Rattle.std.proofs.Math.Nat.{mod-lt}
 use Rattle.std.proofs.lemmas.Option.{slice_get-get_or}
@@ -10,7 +10,6 @@ use Rattle.instr_table.specs.Event.{Sent, no_effects}
 use Rattle.instr_table.specs.Sheet.{Account, account, short, spend, stop, prepared}
 use Rattle.instr_table.specs.Outcome.{Outcome, Goes, Faults, Commits, Row}
 use Rattle.instr_table.specs.Lane.{Lane, lane_row}
-use Rattle.vm_turn.specs.declared.journal.Entry.{Entry}
 use Rattle.vm_turn.specs.declared.journal.Outcome.TheVariants.{RanOut}
 use Rattle.vm_turn.specs.declared.journal.Turn.{Turn as Answer}
 use Rattle.vm_turn.specs.declared.journal.Turn.TheVariants.{Dispatched, Stepped, Finished, Rest, Spent}
@@ -19,7 +18,7 @@ use Rattle.vm_turn.specs.Actors.{sent_at}
 use Rattle.vm_turn.specs.Piece.{piece}
 use Rattle.vm_turn.specs.Turn.{act, begin, charged, deliver, device_of, dispatch, dispatchable, entry, finish, go, go_on, out_by, released, run_out, spent_by, step, turn, unless_spent}
 use Rattle.vm_machine.specs.View.{unwritten}
-use Rattle.humus.specs.Drive.{AtRest, FallsShort}
+use Rattle.humus.specs.Drive.{FallsShort}
 
 -- ---- what is written
 

@@ -16,12 +16,12 @@ fn rom(rt: &impl Abort, n: u32) -> Word {
 
 // Message 0 sends the number 5 to `println` and to `say`, which refuses it.
 fn sends(rt: &impl Abort, alloc: Global) -> Result<Image, NoMemory> {
-    let five = Op::Push(Word::fix(5).expect(rt, "a number"));
+    let five = Word::fix(5).expect(rt, "a number");
     let cells = vec![in alloc;
-        encode(five, rom(rt, 17)),
+        encode(Op::Push(five), rom(rt, 17)),
         encode(Op::State(1), rom(rt, 18)),
         encode(Op::ActorSend, rom(rt, 19)),
-        encode(five, rom(rt, 20)),
+        encode(Op::Push(five), rom(rt, 20)),
         encode(Op::State(2), rom(rt, 21)),
         encode(Op::ActorSend, rom(rt, 22)),
         encode(Op::End(1), Word::UNDEF),

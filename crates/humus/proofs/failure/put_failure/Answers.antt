@@ -1,4 +1,4 @@
-use Rattle.std.proofs.Common.{ap, subst, ◌∙◌, ℤ, List, ℕ}
+use Rattle.std.proofs.Common.{ap, subst, ◌∙◌, List, ℕ}
 use Rattle.hum_outside.specs.Outside.{appended, AppendsFront}
 use Rattle.cap_words.proofs.Ranges.{in_range-cast}
 use Rattle.humus.specs.Failure.{name_of, code_text, line_with}
