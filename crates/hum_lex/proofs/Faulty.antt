@@ -8,12 +8,13 @@ use Rattle.hum_syntax.specs.Kinds.{kind_of_run}
 use Rattle.hum_syntax.specs.Tokens.{Placed, weight_of, weight, weight_limit}
 use Rattle.hum_syntax.specs.Lexes.{IsWholeRun, is_large, is_reserved, Stands, Spot, Step, token}
 use Rattle.hum_lex.specs.declared.error.LexCause.{LexCause}
+use Rattle.hum_lex.specs.declared.error.LexCause.TheVariants as cause
 use Rattle.hum_lex.specs.Faults.{Fault, stray, hash_delimiter, hash_stray, open_text, bad_text, long_run, long_symbol, large, reserved, heavy}
 use Rattle.hum_lex.proofs.Runs.{same_front}
 use Rattle.hum_lex.proofs.Texts.{same_inside, text_goes_on, inside_text}
 use Rattle.hum_lex.proofs.Leads.{lead, lead_run, lead_symbol, lead_stray, run_first, run_byte, one_step, IsRunStep, run_step, symbol_step, text_step, no_step}
 
-delimiter_no_blank : (b : ℕ) → is_delimiter b ≡ true → is_blank b ≡ false
+pub delimiter_no_blank : (b : ℕ) → is_delimiter b ≡ true → is_blank b ≡ false
 delimiter_no_blank b is = false_from_ne_true (is_blank b) (λ h.
     elim (or_cases (b == 32 || b == 9 || b == 13) (b == 10) h) [
       | inl h ↦ elim (or_cases (b == 32 || b == 9) (b == 13) h) [
@@ -26,7 +27,7 @@ delimiter_no_blank b is = false_from_ne_true (is_blank b) (λ h.
     none : (n : ℕ) → is_delimiter n ≡ false → (b == n) ≡ true → ⊥
     none n fails e = both_ways (is_delimiter b) (ap is_delimiter (eqb-true b n e) ∙ fails) is
 
-lead_hash : (b : ℕ) (rest : Bytes) → is_blank b ≡ false → lead (35 ∷ b ∷ rest) ≡ 4
+pub lead_hash : (b : ℕ) (rest : Bytes) → is_blank b ≡ false → lead (35 ∷ b ∷ rest) ≡ 4
 lead_hash b rest dark = cond-false (is_blank b) 3 4 dark
 
 -- the byte behind a symbol's `#` is a run's
@@ -39,7 +40,7 @@ hash_run_byte s m us b rest h e dark =
     ap is_run_byte byte ∙ first.3
 
 -- two runs at one place are one
-same_run : (us rest vs more : Bytes) → IsWholeRun us rest → IsWholeRun vs more → us ++ rest ≡ vs ++ more → us ≡ vs
+pub same_run : (us rest vs more : Bytes) → IsWholeRun us rest → IsWholeRun vs more → us ++ rest ≡ vs ++ more → us ≡ vs
 same_run us rest vs more w w' e = (same_front is_run_byte us rest vs more w.each w.maximal w'.each w'.maximal e).0
 
 module _ (s m : Spot) (us : List Placed) (weighed len : ℕ) (why : LexCause) (h : Step s us m) where
@@ -54,8 +55,9 @@ weighs s m us xs rest kind e stands h =
     let same = one_step s m _ us _ h (token e stands) in
     ap weight same.0 ∙ (let zero_more : weight_of kind + 0 ≡ weight_of kind = omega arith in zero_more)
 
--- A step from a place with a fault makes the tokens too heavy.
-pub only_heavy : (s m : Spot) (us : List Placed) (weighed len : ℕ) (why : LexCause) → Fault s.called weighed s.rest len why → Step s us m → weight_limit < weighed + weight us
+-- A step from a place with a fault makes the tokens too heavy, and the fault is no other.
+pub only_heavy : (s m : Spot) (us : List Placed) (weighed len : ℕ) (why : LexCause) → Fault s.called weighed s.rest len why → Step s us m
+    → (len ≡ 0) × (why ≡ cause.TooLarge) × (weight_limit < weighed + weight us)
 only_heavy s m us weighed len why (stray {b = b} {rest = rest} e is) h = absurd (no_step s m us h (ap lead e ∙ lead_stray b rest is))
 only_heavy s m us weighed len why (hash_delimiter {b = b} {rest = rest} e is) h =
     absurd (both_ways (is_delimiter b) (run_byte b (hash_run_byte s m us b rest h e (delimiter_no_blank b is))).no_delimiter is)
@@ -78,4 +80,4 @@ only_heavy s m us weighed len why (reserved {us = xs} {rest = rest} e w short ou
     let is = at_run s m us weighed len why h xs rest e w in
     absurd (both_ways (is_reserved (kind_of_run xs)) (ap (λ zs. is_reserved (kind_of_run zs)) (sym (at_same s m us weighed len why h xs rest e w)) ∙ is.in_profile) out)
 only_heavy s m us weighed len why (heavy {us = xs} {rest = rest} {kind = kind} e stands over) h =
-    let same = weighs s m us xs rest kind e stands h in omega arith
+    let same = weighs s m us xs rest kind e stands h in (refl, refl, omega arith)

@@ -7,3 +7,5 @@ pub mod Wholes
 pub mod Reading
 pub mod Numbers
 pub mod Insides
+pub mod Refusals
+pub mod Decided

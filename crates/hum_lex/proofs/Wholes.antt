@@ -11,11 +11,12 @@ use Rattle.hum_lex.specs.declared.error.LexError.{LexError}
 use Rattle.hum_lex.specs.declared.error.LexError.TheVariants as error
 use Rattle.hum_lex.specs.declared.error.LexRefused.{LexRefused}
 use Rattle.hum_lex.specs.Faults.{Fault, heavy, IsRefusedAt}
+use Rattle.hum_lex.specs.Laws.{OneTokenList}
 use Rattle.hum_lex.specs.Fronts.{IsGap, IsToken, IsFault, IsHeavy}
 use Rattle.hum_lex.proofs.Leads.{one_step, end_step}
 use Rattle.hum_lex.proofs.Faulty.{only_heavy}
 
-weight-append : (us vs : List Placed) → weight (us ++ vs) ≡ weight us + weight vs
+pub weight-append : (us vs : List Placed) → weight (us ++ vs) ≡ weight us + weight vs
 weight-append [] vs = (let e : weight vs ≡ 0 + weight vs = omega arith in e)
 weight-append (u ∷ us) vs = let more = weight-append us vs in omega arith
 
@@ -25,7 +26,7 @@ longer s m n us vs here h = subst (λ xs. Leads s xs n) (append-nil vs) (step h 
 longer s m n _ vs (step {m = mid} {us = us} {vs = ws} h more) last = subst (λ xs. Leads s xs n) (sym (append_assoc us ws vs)) (step h (longer mid m n ws vs more last))
 
 -- tokens that lead to a place begin all the tokens of the text
-passes : (s m e : Spot) (us ts : List Placed) → Leads s us m → Leads s ts e → e.rest ≡ [] → (vs : List Placed) × (ts ≡ us ++ vs) × Leads m vs e
+pub passes : (s m e : Spot) (us ts : List Placed) → Leads s us m → Leads s ts e → e.rest ≡ [] → (vs : List Placed) × (ts ≡ us ++ vs) × Leads m vs e
 passes s m e us ts here all end = (ts, refl, all)
 passes s m e us ts (step {m = mid} {us = us₁} h more) here end = absurd (end_step s mid us₁ h end)
 passes s m e us ts (step {m = mid} {us = us₁} {vs = vs₁} h more) (step {m = mid'} {us = us₂} {vs = vs₂} h' more') end =
@@ -37,7 +38,7 @@ passes s m e us ts (step {m = mid} {us = us₁} {vs = vs₁} h more) (step {m = 
 none_go_on : (s e : Spot) (vs : List Placed) (weighed len : ℕ) (why : LexCause) → 0 < length s.rest → Fault s.called weighed s.rest len why → Leads s vs e → e.rest ≡ [] → weight_limit < weighed + weight vs
 none_go_on s e vs weighed len why some fault here end = let n = ap length end in absurd (omega arith)
 none_go_on s e vs weighed len why some fault (step {m = mid} {us = us₁} {vs = vs₁} h more) end =
-    let over = only_heavy s mid us₁ weighed len why fault h in let sum = weight-append us₁ vs₁ in omega arith
+    let over = (only_heavy s mid us₁ weighed len why fault h).2 in let sum = weight-append us₁ vs₁ in omega arith
 
 module _ (bytes : Bytes) where
   pub record IsReached (called : Bool) (at weighed : ℕ) (ts : List Placed) : Type 0 where
@@ -136,11 +137,10 @@ module _ (bytes : Bytes) where
         subst (λ (r : LexRefused). IsRefusedAt bytes r.at r.cause) both (refused_heavy called at weighed len kind ts is more tok h.1)
 
 -- A text has one list of tokens.
-pub one_list : (bytes : Bytes) (us vs : List Placed) → IsTokens bytes us → IsTokens bytes vs → us ≡ vs
+pub one_list : OneTokenList
 one_list bytes us vs a b =
-    let e = a.lexes.0 in
-    let on = passes (start bytes) e b.lexes.0 us vs a.lexes.1 b.lexes.1 b.lexes.2 in
-    sym (on.1 ∙ ap (λ xs. us ++ xs) (nothing e b.lexes.0 on.0 on.2 a.lexes.2) ∙ append-nil us)
+    let on = passes (start bytes) a.0 b.0 us vs a.1 b.1 b.2 in
+    sym (on.1 ∙ ap (λ xs. us ++ xs) (nothing a.0 b.0 on.0 on.2 a.2) ∙ append-nil us)
   where
     nothing : (e d : Spot) (xs : List Placed) → Leads e xs d → e.rest ≡ [] → xs ≡ []
     nothing e d xs here end = refl

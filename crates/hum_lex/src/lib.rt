@@ -4,6 +4,7 @@
 mod bytes;
 mod error;
 mod front;
+mod laws;
 #[cfg(test)]
 mod tests;
 mod text;
@@ -11,4 +12,8 @@ mod whole;
 mod word;
 
 pub use error::{LexCause, LexError, LexRefused};
+pub use laws::{
+    refused_texts_have_no_tokens, texts_have_one_refusal, texts_have_one_token_list,
+    texts_have_tokens_or_a_refusal,
+};
 pub use whole::lex;

@@ -2,7 +2,7 @@
 
 use crate::{LexCause, LexError, lex};
 use hum_syntax::{Token, TokenKind};
-use std::alloc::Global;
+use std::alloc::{AllocError, Global};
 use std::test::Fail;
 
 fn tokens_of(alloc: Global, text: &[u8]) -> Result<Vec<Token>, LexError> {
@@ -69,7 +69,7 @@ fn holds(alloc: Global, text: &[u8], point: char) -> bool {
     found
 }
 
-const KINDS: [(&[u8], &[u8]); 26] = [
+const KINDS: [(&[u8], &[u8]); 29] = [
     (b"", b""),
     (b" \t\r\n", b""),
     (
@@ -90,6 +90,9 @@ const KINDS: [(&[u8], &[u8]); 26] = [
     (b"#", b""),
     (b"1 # one\n2", b"nn"),
     (b"1 # to the end", b"n"),
+    (b"1 #", b"n"),
+    (b"1 # ", b"n"),
+    (b"1 #\n", b"n"),
     (b"1#\n2", b"nn"),
     (b"# \x80\xFF any bytes \"\n1", b"n"),
     (b"#LET #1 #_ #?", b"####"),
@@ -108,7 +111,7 @@ fn kinds_of_tokens(rt: HostRuntime) {
     }
 }
 
-const REFUSALS: [(&[u8], u32, LexCause); 27] = [
+const REFUSALS: [(&[u8], u32, LexCause); 32] = [
     (b"SEND 1073741824 TO println", 5, LexCause::NumberRange),
     (b"-1073741825", 0, LexCause::NumberRange),
     (b"AFTER", 0, LexCause::NotInProfile),
@@ -129,13 +132,18 @@ const REFUSALS: [(&[u8], u32, LexCause); 27] = [
     (b"\"\x80\"", 1, LexCause::BadText),
     (b"\"\xC0\x80\"", 1, LexCause::BadText),
     (b"\"\xC2\"", 1, LexCause::BadText),
+    (b"\"\xC1\xBF\"", 1, LexCause::BadText),
+    (b"\"\xDF\xC0\"", 1, LexCause::BadText),
     (b"\"\xE0\x9F\xBF\"", 1, LexCause::BadText),
     (b"\"\xED\xA0\x80\"", 1, LexCause::BadText),
     (b"\"\xED\xBF\xBF\"", 1, LexCause::BadText),
     (b"\"\xF0\x8F\xBF\xBF\"", 1, LexCause::BadText),
     (b"\"\xF4\x90\x80\x80\"", 1, LexCause::BadText),
     (b"\"a\xF0\x9F\x98\"", 2, LexCause::BadText),
+    (b"\"\xF5\x80\x80\x80\"", 1, LexCause::BadText),
+    (b"\"\xC2\x9F\x80\"", 3, LexCause::BadText),
     (b"1 \x80 AFTER", 2, LexCause::BadByte),
+    (b"1073741824 \x80", 0, LexCause::NumberRange),
 ];
 
 #[test]
@@ -164,15 +172,80 @@ fn edges_of_utf8(rt: HostRuntime) {
     }
 }
 
-// The longest run and the largest weight, and one more of each.
+// A text of one part, written so many times behind a front.
+fn repeated(alloc: Global, front: &[u8], part: &[u8], count: usize) -> Result<Vec<u8>, AllocError> {
+    let mut text = Vec::from_slice(alloc, front)?;
+    for _turn in 0..count {
+        text.extend_from_slice(part)?;
+    }
+    Ok(text)
+}
+
+fn has_tokens(alloc: Global, text: &[u8], count: usize) -> bool {
+    match tokens_of(alloc, text) {
+        Ok(tokens) => tokens.len() == count,
+        Err(_) => false,
+    }
+}
+
+// Runs of 128 bytes, and where they are refused with a byte more.
+const RUNS: [(&[u8], &[u8], u32); 3] = [(b"", b"0", 0), (b"", b"x", 0), (b"#", b"x", 1)];
+
 #[test]
-fn limits(rt: HostRuntime) -> Result<(), Fail> {
+fn longest_runs(rt: HostRuntime) -> Result<(), Fail> {
     let alloc = rt.alloc();
-    let run = vec![in alloc; b'0'; 129]?;
-    assert!(rt; has_kinds(alloc, &run[..128], b"n"));
-    assert!(rt; is_refused(alloc, &run, 0, LexCause::RunTooLong));
-    let commas = vec![in alloc; b','; 16001]?;
-    assert!(rt; has_kinds(alloc, &commas[..16000], &commas[..16000]));
-    assert!(rt; is_refused(alloc, &commas, 16000, LexCause::TooLarge));
+    for row in RUNS.iter() {
+        let text = repeated(alloc, row.0, row.1, 128)?;
+        assert!(rt; has_tokens(alloc, &text, 1));
+        let longer = repeated(alloc, row.0, row.1, 129)?;
+        assert!(rt; is_refused(alloc, &longer, row.2, LexCause::RunTooLong));
+    }
     Ok(())
+}
+
+// How many tokens of a kind are light enough, and where one more is refused: marks, names, symbols and texts.
+const WEIGHTS: [(&[u8], usize, u32); 4] = [
+    (b",", 16000, 16000),
+    (b"name ", 16000, 80000),
+    (b"#a ", 8000, 24000),
+    (b"\"\xC2\x80\"", 8000, 32000),
+];
+
+#[test]
+fn largest_weights(rt: HostRuntime) -> Result<(), Fail> {
+    let alloc = rt.alloc();
+    for row in WEIGHTS.iter() {
+        let text = repeated(alloc, b"", row.0, row.1)?;
+        assert!(rt; has_tokens(alloc, &text, row.1));
+        let heavier = repeated(alloc, &text, row.0, 1)?;
+        assert!(rt; is_refused(alloc, &heavier, row.2, LexCause::TooLarge));
+    }
+    Ok(())
+}
+
+fn has_spans(alloc: Global, text: &[u8], spans: &[(u32, u32)]) -> bool {
+    let Ok(tokens) = tokens_of(alloc, text) else {
+        return false;
+    };
+    let mut same = tokens.len() == spans.len();
+    for (token, span) in tokens.iter().zip(spans.iter()) {
+        same = same && token.from == span.0 && token.to == span.1;
+    }
+    same
+}
+
+const SPANS: [(&[u8], &[(u32, u32)]); 3] = [
+    (
+        b" LET f(x)\n= 1 # c",
+        &[(1, 4), (5, 6), (6, 7), (7, 8), (8, 9), (10, 11), (12, 13)],
+    ),
+    (b"\"\xC2\x80\\n\" #ab", &[(0, 6), (7, 10)]),
+    (b"#c\n-12", &[(0, 2), (3, 6)]),
+];
+
+#[test]
+fn spans(rt: HostRuntime) {
+    for row in SPANS.iter() {
+        assert!(rt; has_spans(rt.alloc(), row.0, row.1));
+    }
 }

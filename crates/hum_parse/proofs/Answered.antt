@@ -1,14 +1,15 @@
 -- From the outcomes of a program to what the parser says.
-use Rattle.std.proofs.Common.{◌≡◌, ◌≤◌, ◌-◌, ℕ, zero, suc, true, List, [], ◌∷◌, ◌++◌, length, Ok, Err, IsTrue, refl, sym, ap, ◌∙◌, subst, arith, append-nil, length-append}
+use Rattle.std.proofs.Common.{◌≡◌, ◌≤◌, ◌+◌, ◌-◌, ℕ, zero, suc, true, List, [], ◌∷◌, ◌++◌, length, Ok, Err, IsTrue, refl, sym, ap, ◌∙◌, subst, arith, append-nil, length-append}
 use Rattle.std.proofs.Math.Bool.{Bool-set}
 use Rattle.hum_syntax.specs.Formed.{are_formed}
 use Rattle.hum_syntax.specs.declared.Stmt.{Stmt}
 use Rattle.hum_syntax.specs.declared.Tree.{Tree}
 use Rattle.hum_syntax.specs.Spells.{Kinds, kinds, IsStmts, Spells, deepest}
+use Rattle.hum_syntax.proofs.MoreLevels.{more_levels}
 use Rattle.hum_parse.specs.Input.{Outcome, and_then}
 use Rattle.hum_syntax.specs.declared.Token.{Token}
 use Rattle.hum_parse.specs.Begins.{RefusedAt}
-use Rattle.hum_parse.specs.Laws.{OneTree}
+use Rattle.hum_parse.specs.Laws.{OneTree, OneAtEachLevel}
 use Rattle.hum_parse.specs.Rules.{program, program_from, stmt, inner_at}
 use Rattle.hum_parse.proofs.Exact.{Language, SameHead, Answers}
 use Rattle.hum_parse.proofs.Levels.{Behind}
@@ -33,18 +34,21 @@ same_head : (ts : Kinds) → SameHead ts ts
 same_head [] = tt
 same_head (t ∷ ts) = refl
 
-abbrev Whole : Language (List Stmt)
-Whole = Behind [] (IsStmts deepest)
+abbrev WholeAt : ℕ → Language (List Stmt)
+WholeAt n = Behind [] (IsStmts n)
 
-whole : (ts : Kinds) (xs : List Stmt) → IsStmts deepest ts xs → Whole ts xs
-whole ts xs h = record { more = xs; is = refl; spelled = h }
+abbrev Whole : Language (List Stmt)
+Whole = WholeAt deepest
+
+whole : (n : ℕ) (ts : Kinds) (xs : List Stmt) → IsStmts n ts xs → WholeAt n ts xs
+whole n ts xs h = record { more = xs; is = refl; spelled = h }
 
 thin : (ts : Kinds) (at : ℕ) → RefusedAt Whole ts at → RefusedAt (IsStmts deepest) ts at
 thin ts at r = record {
   within = r.within;
   begins = (r.begins.0, r.begins.1, subst (IsStmts deepest (_ ++ kinds r.begins.0)) r.begins.2.is r.begins.2.spelled);
-  no_longer = λ k a b x. r.no_longer k a b (x.0, x.1, whole (_ ++ kinds x.0) x.1 x.2);
-  no_tree = λ xs h. r.no_tree xs (whole ts xs h);
+  no_longer = λ k a b x. r.no_longer k a b (x.0, x.1, whole deepest (_ ++ kinds x.0) x.1 x.2);
+  no_tree = λ xs h. r.no_tree xs (whole deepest ts xs h);
 }
 
 stopped : (ts rest : Kinds) (o : Outcome (List Stmt)) → Answers Whole all_on ts o → o ≡ Err rest → RefusedAt (IsStmts deepest) ts
@@ -60,16 +64,19 @@ stopped ts rest (Err r) w e =
 pub refused_whole : (ts rest : Kinds) → program deepest ts ≡ Err rest → RefusedAt (IsStmts deepest) ts (length ts - length rest)
 refused_whole ts rest e = stopped ts rest (program deepest ts) (exact_program 198 ts) e
 
-only_at : (ts : Kinds) (xs : List Stmt) (o : Outcome (List Stmt)) → Answers Whole all_on ts o → IsStmts deepest ts xs
+only_at : (n : ℕ) (ts : Kinds) (xs : List Stmt) (o : Outcome (List Stmt)) → Answers (WholeAt n) all_on ts o → IsStmts n ts xs
     → (rest : Kinds) × (o ≡ Ok (xs, rest))
-only_at ts xs (Ok p) w h =
+only_at n ts xs (Ok p) w h =
     let all : w.front ++ p.1 ≡ ts ++ [] = sym w.split ∙ sym (append-nil ts) in
-    let one : (ts ≡ w.front) × (p.0 ≡ xs) = w.unique p.1 ts [] xs (same_head p.1) all (whole ts xs h) tt in
+    let one : (ts ≡ w.front) × (p.0 ≡ xs) = w.unique p.1 ts [] xs (same_head p.1) all (whole n ts xs h) tt in
     (p.1, ap (λ z. Ok (z, p.1)) one.1)
-only_at ts xs (Err rest) w h = absurd (w.dead rest ts [] xs (same_head rest) (sym w.split ∙ sym (append-nil ts)) (whole ts xs h) tt)
+only_at n ts xs (Err rest) w h = absurd (w.dead rest ts [] xs (same_head rest) (sym w.split ∙ sym (append-nil ts)) (whole n ts xs h) tt)
+
+only_level : (n : ℕ) (ts : Kinds) (xs : List Stmt) → IsStmts (suc n) ts xs → (rest : Kinds) × (program (suc n) ts ≡ Ok (xs, rest))
+only_level n ts xs h = only_at (suc n) ts xs (program (suc n) ts) (exact_program n ts) h
 
 pub only_whole : (ts : Kinds) (xs : List Stmt) → IsStmts deepest ts xs → (rest : Kinds) × (program deepest ts ≡ Ok (xs, rest))
-only_whole ts xs h = only_at ts xs (program deepest ts) (exact_program 198 ts) h
+only_whole ts xs h = only_level 198 ts xs h
 
 abbrev okay : List Stmt × Kinds → Outcome (List Stmt)
 okay p = Ok p
@@ -140,12 +147,16 @@ kinds_length (t ∷ ts) = ap suc (kinds_length ts)
 
 pub ruleset whole_rules = (shorter_whole, refused_whole, only_whole, found_whole)
 
--- A token list spells at most one program.
-one_program : (ts : Kinds) (xs ys : List Stmt) → IsStmts deepest ts xs → IsStmts deepest ts ys → xs ≡ ys
-one_program ts xs ys a b =
-    let r = only_whole ts xs a in
-    let s = only_whole ts ys b in
-    (left_of xs ys r.0 s.0 (program deepest ts) r.1 s.1).0
+-- Tokens spell one program at most, whatever levels are left.
+one_program : (n : ℕ) (ts : Kinds) (xs ys : List Stmt) → IsStmts (suc n) ts xs → IsStmts (suc n) ts ys → xs ≡ ys
+one_program n ts xs ys a b =
+    let r = only_level n ts xs a in
+    let s = only_level n ts ys b in
+    (left_of xs ys r.0 s.0 (program (suc n) ts) r.1 s.1).0
+
+pub one_at_each_level : OneAtEachLevel
+one_at_each_level m n ts xs ys a b =
+    one_program (m + n) ts xs ys (more_levels m (suc (m + n)) ts xs (omega arith) a) (more_levels n (suc (m + n)) ts ys (omega arith) b)
 
 pub one_tree : OneTree
-one_tree ts a b h h' = same_tree a b (one_program ts a.statements b.statements h h')
+one_tree ts a b h h' = same_tree a b (one_at_each_level deepest deepest ts a.statements b.statements h h')

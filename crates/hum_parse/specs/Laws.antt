@@ -1,12 +1,17 @@
 -- What is so of the trees that tokens spell, and of the places of refusals.
-use Rattle.std.specs.Prelude.{◌≡◌, ℕ}
+use Rattle.std.specs.Prelude.{◌≡◌, ℕ, List}
 use Rattle.hum_syntax.specs.declared.Tree.{Tree}
+use Rattle.hum_syntax.specs.declared.Stmt.{Stmt}
 use Rattle.hum_syntax.specs.Spells.{Kinds, IsStmts, Spells, deepest}
 use Rattle.hum_parse.specs.Begins.{RefusedAt}
 
 -- tokens spell one tree at most
 abbrev pub OneTree : Type 0
 OneTree = (ks : Kinds) (a b : Tree) → Spells ks a → Spells ks b → a ≡ b
+
+-- also where they spell it with other levels left
+abbrev pub OneAtEachLevel : Type 0
+OneAtEachLevel = (m n : ℕ) (ks : Kinds) (xs ys : List Stmt) → IsStmts m ks xs → IsStmts n ks ys → xs ≡ ys
 
 -- and are refused at one place at most
 abbrev pub OnePlace : Type 0

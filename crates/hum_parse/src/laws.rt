@@ -1,10 +1,15 @@
 //! What is so of the trees that tokens spell, and of the places of refusals.
 
-ghost use Rattle.hum_parse.specs.Laws.{OneTree, OnePlace};
+ghost use Rattle.hum_parse.specs.Laws.{OneTree, OneAtEachLevel, OnePlace};
 
 /// Tokens spell one tree at most.
 pub fn tokens_spell_one_tree()
     ensures { OneTree }
+{}
+
+/// However deep they may be, tokens spell one list of statements at most.
+pub fn tokens_spell_one_tree_at_each_level()
+    ensures { OneAtEachLevel }
 {}
 
 /// Tokens are refused at one place at most.

@@ -13,6 +13,8 @@ mod tests;
 mod tokens;
 mod whole;
 
-pub use laws::{tokens_are_refused_at_one_place, tokens_spell_one_tree};
+pub use laws::{
+    tokens_are_refused_at_one_place, tokens_spell_one_tree, tokens_spell_one_tree_at_each_level,
+};
 pub use round_trip::read_back;
 pub use whole::{ParseError, parse};

@@ -1,28 +1,36 @@
 //! What is printed is read again.
 
-ghost use Rattle.std.specs.Prelude.{◌≡◌, ◌≤◌, ◌<◌, ◌^◌, ◌⊎◌, length};
+ghost use Rattle.std.specs.Prelude.{◌≡◌, ◌≤◌, ◌⊎◌, Some, None, IfOk};
 ghost use Rattle.hum_syntax.specs.Prints.{printed, levels};
 ghost use Rattle.hum_syntax.specs.Spells.{deepest};
 ghost use Rattle.hum_syntax.specs.Tokens.{weight_of_kinds, weight_limit};
-ghost use Rattle.hum_syntax.specs.Writes.{text_of};
 
 use crate::whole::{ParseError, parse};
-use hum_lex::lex;
+use hum_lex::{LexError, lex};
 use hum_syntax::{Tree, print};
-use std::alloc::Global;
+use std::alloc::{AllocError, Global};
 
-/// The tree that the text of a tree spells: it is the same tree, where its tokens are light enough and no deeper than a program's.
-pub fn read_back(alloc: Global, tree: &Tree) -> Result<Tree, ParseError>
-    requires light { weight_of_kinds (printed tree.now.statements) ≤ weight_limit }
-    requires shallow { levels tree.now.statements ≤ deepest }
-    requires short { length (text_of (printed tree.now.statements)) < 2 ^ 32 }
-    ensures { (result ≡ Ok tree.now) ⊎ (result ≡ Err ParseError.NoMemory) }
+/// The longest text that may be lexed.
+const TEXT_LIMIT: usize = u32::MAX as usize;
+
+/// What the text of a tree spells: the same tree or, where that is too heavy or too deep for a program, none.
+pub fn read_back(alloc: Global, tree: &Tree) -> Result<Option<Tree>, AllocError>
+    ensures same { weight_of_kinds (printed tree.now.statements) ≤ weight_limit → levels tree.now.statements ≤ deepest →
+        IfOk result (λ again. again ≡ Some tree.now) }
+    ensures no_other { IfOk result (λ again. (again ≡ None) ⊎ (again ≡ Some tree.now)) }
 {
-    let Ok(text) = print(alloc, tree) else {
-        return Err(ParseError::NoMemory);
+    let text = print(alloc, tree)?;
+    if text.len() > TEXT_LIMIT {
+        return Ok(None);
+    }
+    let tokens = match lex(alloc, text.as_slice()) {
+        Ok(tokens) => tokens,
+        Err(LexError::NoMemory) => return Err(AllocError),
+        Err(LexError::Refused(_)) => return Ok(None),
     };
-    let Ok(tokens) = lex(alloc, text.as_slice()) else {
-        return Err(ParseError::NoMemory);
-    };
-    parse(alloc, tokens.as_slice())
+    match parse(alloc, tokens.as_slice()) {
+        Ok(again) => Ok(Some(again)),
+        Err(ParseError::NoMemory) => Err(AllocError),
+        Err(ParseError::Refused { at: _ }) => Ok(None),
+    }
 }

@@ -196,46 +196,80 @@ fn repeated(alloc: Global, parts: &[(&[u8], usize)]) -> Result<Vec<u8>, AllocErr
     Ok(text)
 }
 
-// The last text that is not too deep, and the first that is.
+// The deepest texts of their kinds, with their shapes.
+const DEEPEST: [(&[(&[u8], usize)], &[u8]); 8] = [
+    (&[(b"(", 198), (b"1", 1), (b")", 198)], b"Dn."),
+    (&[(b"(", 199), (b")", 199)], b"D0."),
+    (&[(b"f", 1), (b"()", 199)], b"D!."),
+    (&[(b"[", 99), (b"]", 99)], b"D[1"),
+    (&[(b"[", 99), (b"1", 1), (b"]", 99)], b"D[1"),
+    (
+        &[(b"(", 196), (b"CASE x OF _ : 1 END", 1), (b")", 196)],
+        b"DC1",
+    ),
+    (&[(b"LET f() = [", 99), (b"]", 99)], b"L\\."),
+    (&[(b"f(1", 1), (b", 1", 2999), (b")", 1)], b"D!."),
+];
+
+// Texts that are deeper by one, with the places at which they are refused.
+const TOO_DEEP: [(&[(&[u8], usize)], u32); 8] = [
+    (&[(b"(", 199), (b"1", 1), (b")", 199)], 199),
+    (&[(b"(", 200), (b"1", 1), (b")", 200)], 199),
+    (&[(b"(", 200), (b")", 200)], 199),
+    (&[(b"f", 1), (b"()", 200)], 399),
+    (&[(b"[", 100), (b"]", 100)], 99),
+    (&[(b"[", 100), (b"1", 1), (b"]", 100)], 99),
+    (
+        &[(b"(", 197), (b"CASE x OF _ : 1 END", 1), (b")", 197)],
+        197,
+    ),
+    (&[(b"LET f() = [", 100), (b"]", 100)], 599),
+];
+
 #[test]
 fn depths(rt: HostRuntime) -> Result<(), Fail> {
     let alloc = rt.alloc();
-    let deep = repeated(alloc, &[(b"(", 198), (b"1", 1), (b")", 198)])?;
-    assert!(rt; has_shape(alloc, &deep, &[b"Dn."]));
-    let deeper = repeated(alloc, &[(b"(", 199), (b"1", 1), (b")", 199)])?;
-    assert!(rt; is_refused(alloc, &deeper, 199));
-    let empty = repeated(alloc, &[(b"(", 199), (b")", 199)])?;
-    assert!(rt; has_shape(alloc, &empty, &[b"D0."]));
-    let called = repeated(alloc, &[(b"f", 1), (b"()", 199)])?;
-    assert!(rt; has_shape(alloc, &called, &[b"D!."]));
-    let again = repeated(alloc, &[(b"f", 1), (b"()", 200)])?;
-    assert!(rt; is_refused(alloc, &again, 399));
-    let blocks = repeated(alloc, &[(b"[", 99), (b"1", 1), (b"]", 99)])?;
-    assert!(rt; has_shape(alloc, &blocks, &[b"D[1"]));
-    let inside = repeated(alloc, &[(b"[", 100), (b"]", 100)])?;
-    assert!(rt; is_refused(alloc, &inside, 99));
-    let listed = repeated(alloc, &[(b"f(1", 1), (b", 1", 2999), (b")", 1)])?;
-    assert!(rt; has_shape(alloc, &listed, &[b"D!."]));
+    for row in DEEPEST.iter() {
+        let text = repeated(alloc, row.0)?;
+        assert!(rt; has_shape(alloc, &text, &[row.1]));
+    }
+    for row in TOO_DEEP.iter() {
+        let text = repeated(alloc, row.0)?;
+        assert!(rt; is_refused(alloc, &text, row.1));
+    }
     Ok(())
 }
 
-fn printed(alloc: Global, text: &[u8]) -> Option<Vec<u8>> {
-    let tree = tree_of(alloc, text).ok()?;
-    print(alloc, &tree).ok()
+// Each callee is a call: hardly any program has more nodes one in another. `rt try` runs out of stack here.
+#[test]
+fn a_tall_tree(rt: HostRuntime) -> Result<(), Fail> {
+    let alloc = rt.alloc();
+    let calls = repeated(alloc, &[(b")", 1), (b"()", 146)])?;
+    let text = repeated(alloc, &[(b"f(", 50), (b"1", 1), (&calls, 50)])?;
+    let Ok(tree) = tree_of(alloc, &text) else {
+        return Err(AllocError.into());
+    };
+    let again = read_back(alloc, &tree)?;
+    assert!(rt; again.is_none());
+    Ok(())
 }
 
-// What is printed is as wanted, and what is read from it is printed the same.
+// What is printed is as wanted, and so is that of the tree that is read back: the text tells the tree.
 fn is_printed(alloc: Global, text: &[u8], wanted: &[u8]) -> bool {
-    let Some(found) = printed(alloc, text) else {
+    let Ok(tree) = tree_of(alloc, text) else {
         return false;
     };
-    let Some(again) = printed(alloc, &found) else {
+    let Ok(Some(again)) = read_back(alloc, &tree) else {
         return false;
     };
-    found.as_slice() == wanted && again.as_slice() == wanted
+    let (Ok(first), Ok(second)) = (print(alloc, &tree), print(alloc, &again)) else {
+        return false;
+    };
+    first.as_slice() == wanted && second.as_slice() == wanted
 }
 
-const PRINTED: [(&[u8], &[u8]); 12] = [
+const PRINTED: [(&[u8], &[u8]); 13] = [
+    (b"", b""),
     (b"f\n(x)", b"f x"),
     (b"f(x)", b"f( x )"),
     (b"(a, b), c", b"( a , b ) , c"),
@@ -270,14 +304,6 @@ CREATE j WITH start( x , y , println ) SEND NIL TO j",
     ),
     (b"LET f(x) = f(x) f(0)", b"LET f = \\ x . f( x ) f( 0 )"),
 ];
-
-#[test]
-fn an_empty_tree(rt: HostRuntime) {
-    let tree = Tree {
-        statements: Items::new(rt.alloc()),
-    };
-    assert!(rt; read_back(rt.alloc(), &tree).is_ok());
-}
 
 #[test]
 fn prints(rt: HostRuntime) {

@@ -31,13 +31,13 @@ abbrev Stops : Bytes → Type 0
 Stops rest = ends_or (λ b. not (is_run_byte b)) rest ≡ true
 
 -- a run that stands for a kind
-record IsRunOf (us : Bytes) (kind : TokenKind) : Type 0 where
-  some : 0 < length us
-  each : list_all is_run_byte us ≡ true
-  short : length us ≤ 128
-  value : kind_of_run us ≡ kind
-  small : is_large kind ≡ false
-  open_to_all : is_reserved kind ≡ false
+pub record IsRunOf (us : Bytes) (kind : TokenKind) : Type 0 where
+  pub some : 0 < length us
+  pub each : list_all is_run_byte us ≡ true
+  pub short : length us ≤ 128
+  pub value : kind_of_run us ≡ kind
+  pub small : is_large kind ≡ false
+  pub open_to_all : is_reserved kind ≡ false
 
 run_stands : (called : Bool) (us rest : Bytes) (kind : TokenKind) → IsRunOf us kind → Stops rest → Stands called us rest kind
 run_stands called us rest kind is stops =
@@ -45,7 +45,7 @@ run_stands called us rest kind is stops =
     (run (record { some = is.some; each = is.each; maximal = stops }) is.short
     (ap is_large is.value ∙ is.small) (ap is_reserved is.value ∙ is.open_to_all))
 
-run_parts : (us : Bytes) → is_run us ≡ true → (0 < length us) × (list_all is_run_byte us ≡ true) × (length us ≤ 128)
+pub run_parts : (us : Bytes) → is_run us ≡ true → (0 < length us) × (list_all is_run_byte us ≡ true) × (length us ≤ 128)
 run_parts us h =
     let front = and_parts (nat_lt 0 (length us) && nat_le (length us) 128) (list_all is_run_byte us) h in
     let ends = and_parts (nat_lt 0 (length us)) (nat_le (length us) 128) front.0 in
@@ -55,7 +55,7 @@ no_keyword : (found : Option Keyword) → is_none found ≡ true → found ≡ N
 no_keyword None h = refl
 no_keyword (Some word) h = absurd (true≢false (sym h))
 
-name_run : (t : Bytes) → is_name t ≡ true → IsRunOf t (k.Name t)
+pub name_run : (t : Bytes) → is_name t ≡ true → IsRunOf t (k.Name t)
 name_run t h =
     let p = and_parts (is_run t && not (is_number t) && is_none (keyword_of t) && not (is_wildcard t)) (not (is_undefined t)) h in
     let q = and_parts (is_run t && not (is_number t) && is_none (keyword_of t)) (not (is_wildcard t)) p.0 in
@@ -172,7 +172,7 @@ blank_reads called at rest ks more =
     record { ts = more.ts; e = more.e; leads = step (blank refl refl) more.leads; ends = more.ends; kinds = more.kinds }
 
 -- the parts of the test at one token
-parts_at : (called : Bool) (kind : TokenKind) (ks : Kinds) → writable called (kind ∷ ks) ≡ true
+pub parts_at : (called : Bool) (kind : TokenKind) (ks : Kinds) → writable called (kind ∷ ks) ≡ true
     → ((called || not (is_call kind)) ≡ true) × (is_lexed kind ≡ true) × (writable (is_callee kind) ks ≡ true)
 parts_at called kind ks h =
     let outer = and_parts ((called || not (is_call kind)) && is_lexed kind) (writable (is_callee kind) ks) h in

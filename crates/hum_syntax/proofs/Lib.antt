@@ -2,6 +2,7 @@ pub mod Folding
 pub mod FormedTrees
 pub mod NamedTrees
 pub mod SizedTrees
+pub mod ShallowTrees
 pub mod Written
 pub mod Chains
 pub mod Induction
@@ -10,4 +11,5 @@ pub mod Decimals
 pub mod LexedTexts
 pub mod WritableTrees
 pub mod MoreLevels
+pub mod ShortTexts
 pub mod Texts

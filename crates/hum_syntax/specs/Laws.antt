@@ -1,5 +1,5 @@
 -- What is so of every tree that tokens spell, and of the text of a tree.
-use Rattle.std.specs.Prelude.{◌≡◌, ◌≤◌, ◌↔◌, ℕ, true, List, ◌∷◌, ◌++◌, length, slice_get, Some}
+use Rattle.std.specs.Prelude.{◌≡◌, ◌≤◌, ◌↔◌, ℕ, suc, true, List, ◌∷◌, ◌++◌, length, slice_get, Some}
 use Rattle.std.specs.List.{list_all}
 use Rattle.hum_syntax.specs.declared.token.TokenKind.TheVariants as k
 use Rattle.hum_syntax.specs.declared.tree.Stmt.{Stmt}
@@ -9,6 +9,7 @@ use Rattle.hum_syntax.specs.Tokens.{Placed, kinds_of, weight}
 use Rattle.hum_syntax.specs.Formed.{are_formed}
 use Rattle.hum_syntax.specs.Names.{names_of, names_of_kinds}
 use Rattle.hum_syntax.specs.Sizes.{size_of}
+use Rattle.hum_syntax.specs.Depths.{depth_of}
 use Rattle.hum_syntax.specs.Lexes.{Lexes}
 use Rattle.hum_syntax.specs.Spells.{Kinds, IsStmts}
 use Rattle.hum_syntax.specs.Prints.{printed, levels}
@@ -36,6 +37,10 @@ NamesHaveTokens =
 -- a tree is no larger than its tokens weigh
 abbrev pub TreesAreLight : Type 0
 TreesAreLight = (n : ℕ) (ts : List Placed) (xs : List Stmt) → IsStmts n (kinds_of ts) xs → size_of xs ≤ weight ts
+
+-- nor deeper by more than one than the levels that are left for them
+abbrev pub TreesAreShallow : Type 0
+TreesAreShallow = (n : ℕ) (ks : Kinds) (xs : List Stmt) → IsStmts n ks xs → depth_of xs ≤ suc n
 
 -- what tokens spell they spell also where more levels are left
 abbrev pub MoreLevelsSpell : Type 0

@@ -9,3 +9,4 @@ pub mod Names
 pub mod Laws
 pub mod Writes
 pub mod Prints
+pub mod Depths

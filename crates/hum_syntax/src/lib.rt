@@ -15,7 +15,7 @@ mod writer;
 pub use keyword::{KEYWORDS, Keyword};
 pub use laws::{
     more_levels_spell, names_are_spelled, names_have_tokens, spelled_trees_are_formed,
-    trees_are_light,
+    trees_are_light, trees_are_shallow,
 };
 pub use printer::print;
 pub use token::{Token, TokenKind};

@@ -1,7 +1,8 @@
 //! The text of a tree.
 
-ghost use Rattle.std.specs.Prelude.{◌≡◌, Bool, map, OnOk, IfOk};
+ghost use Rattle.std.specs.Prelude.{◌≡◌, ◌≤◌, ◌*◌, Bool, map, length, OnOk, IfOk};
 ghost use Rattle.hum_syntax.specs.declared.token.TokenKind.TheVariants as kinds;
+ghost use Rattle.hum_syntax.specs.Tokens.{weight_of_kinds};
 ghost use Rattle.hum_syntax.specs.Writes.{written, text_of};
 ghost use Rattle.hum_syntax.specs.Prints as spec;
 ghost use Rattle.hum_syntax.specs.Prints.{part_of_expr, part_of_pat, piece_of_stmt, piece_of_arm, piece_of_branch, parens, printed};
@@ -241,11 +242,12 @@ fn pat_tuple(out: &mut Writer, items: &[Pat]) -> Result<(), AllocError>
 /// Parentheses stand round a tuple or an abstraction where a term is wanted, round a tuple that is an item of a tuple, and round a callee
 /// that is no name, call or block. A function definition is written as `LET f = \ p . e`, and the unit value as `NIL`.
 ///
-/// The text lexes to tokens that spell the tree again, wherever these are light enough and no deeper than a program may be. The tree may
-/// be of any depth, and the call takes stack for each level of it: a tree from a text is at most 200 deep.
+/// The text lexes to tokens that spell the tree again, wherever these are light enough and no deeper than a program may be. It has at most
+/// 129 bytes for each unit that they weigh. The call takes stack for each node that stands in another.
 pub fn print(alloc: Global, tree: &Tree) -> Result<Vec<u8>, AllocError>
     ensures value { IfOk result (λ text. text.items ≡ text_of (printed tree.now.statements)) }
     ensures text { IfOk result (λ text. IsTextOf text.items tree.now.statements) }
+    ensures short { IfOk result (λ text. length text.items ≤ 129 * weight_of_kinds (printed tree.now.statements)) }
 {
     let mut out = Writer::new(alloc);
     stmts(&mut out, tree.statements.as_slice())?;

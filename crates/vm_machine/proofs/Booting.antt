@@ -13,7 +13,7 @@ use Rattle.cap_words.proofs.Erased.{seen-taken}
 use Rattle.cap_words.proofs.Frames.{framed-taken}
 use Rattle.quad_memory.specs.Memory.{Memory, with_store}
 use Rattle.quad_memory.specs.Cells.{actor_cells, event_cells}
-use Rattle.quad_memory.specs.Image.{RomImage}
+use Rattle.quad_memory.specs.Image.{RomImage, is_image}
 use Rattle.instr_table.specs.Lists.{pair_quad}
 use Rattle.instr_table.specs.declared.charge.Quota.TheVariants.{Cycles}
 use Rattle.instr_table.specs.Types.{is_sponsor}
@@ -30,7 +30,9 @@ use Rattle.vm_turn.specs.declared.journal.Entry.{Entry}
 use Rattle.vm_turn.specs.State.{State, root, println_device, say_device}
 use Rattle.vm_turn.specs.Boot.{first_actor, boot_slots, booted}
 use Rattle.vm_turn.specs.Sound.{Sound}
+use Rattle.vm_turn.specs.Authority.{WordsTaken}
 use Rattle.vm_turn.proofs.RunsSound.{boot-sound}
+use Rattle.vm_turn.proofs.WordsKept.{boot-taken}
 use Rattle.vm_turn.proofs.Slots.{sponsor-among}
 use Rattle.event_queue.specs.Pending.{Pending, IsAscending}
 use Rattle.vm_step.specs.declared.lane.Lane.{Lane}
@@ -199,9 +201,10 @@ module _ (image : RomImage) (grant : Amounts) (lanes memory events : ℕ) (code 
       let f = flying_is in let sh = sheet_is in let j = journal_is in
       λ i. record (state_of parts) { store = s i; roll = r i; messages = m i; next_number = n i; flight = f i; sheet = sh i; journal = j i }
 
-  pub whole-booted : Whole parts
-  whole-booted = record {
+  pub whole-booted : IsTrue (is_image image.boot image.cells) → Whole parts
+  whole-booted is = record {
     kept = kept;
     sound = subst (λ (s : State). Sound grant s) (sym state-booted) (boot-sound image grant lanes);
+    taken = subst WordsTaken (sym state-booted) (boot-taken image grant lanes is);
     waits = λ e. cc;
   }

@@ -101,7 +101,7 @@ resting s pick (Some kind) a t out idle e c f = f ∙ ap (λ (x : Option Quota).
 resting s pick None Dispatched t out idle e c f = cc
 resting s pick None Stepped t out idle e c f = cc
 resting s pick None (Finished x) t out idle e c f = cc
-resting s pick None Rest t out idle e c f = c
+resting s pick None Rest t out idle e c f = c.0
 resting s pick None (Spent w kind) t out idle e c f = cc
 
 pub turn-rests : (s : State) (pick : ℕ) → unless_out s.out_of (not_rest (turn s pick).1) ≡ false → (turn s pick).0 ≡ s

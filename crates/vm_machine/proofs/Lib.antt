@@ -25,3 +25,4 @@ mod Waiting
 mod Unwritten
 mod Continued
 mod Counting
+mod Unchanged

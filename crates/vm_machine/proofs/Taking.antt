@@ -16,6 +16,7 @@ use Rattle.vm_turn.specs.declared.journal.Turn.TheVariants.{Stepped, Finished}
 use Rattle.vm_turn.specs.State.{State, root}
 use Rattle.vm_turn.specs.Turn.{entry, go_on, finish, act, charged, step, run_out, out_by, spent_by}
 use Rattle.vm_turn.specs.Sound.{Sound, sent_by}
+use Rattle.vm_turn.specs.Authority.{WordsTaken}
 use Rattle.vm_turn.proofs.Sums.{sum-at}
 use Rattle.vm_step.specs.declared.lane.Lane.{Lane}
 use Rattle.vm_step.specs.Flight.{lane_of}
@@ -160,6 +161,7 @@ pub whole-again : (p q : Parts) → Whole p → Kept q → q.grant ≡ p.grant �
 whole-again p q w k g b e = record {
   kept = k;
   sound = subst (λ (x : State). Sound q.grant x) (sym e) (subst (λ (a : Amounts). Sound a (state_of p)) (sym g) w.sound);
+  taken = subst WordsTaken (sym e) w.taken;
   waits = λ h. subst (λ (x : State). Waits x) (sym e) (w.waits (sym b ∙ h));
 }
 

@@ -10,7 +10,9 @@ use Rattle.vm_turn.specs.State.{State}
 use Rattle.vm_turn.specs.Actors.{sent_at}
 use Rattle.vm_turn.specs.Turn.{dispatchable, dispatch, device_of, go, unless_spent, turn, step}
 use Rattle.vm_turn.specs.Sound.{Sound}
+use Rattle.vm_turn.specs.Authority.{WordsTaken}
 use Rattle.vm_turn.proofs.Bound.{turn-sound}
+use Rattle.vm_turn.proofs.WordsKept.{turn-taken}
 use Rattle.event_queue.specs.Pending.{event_of}
 use Rattle.event_queue.specs.Waiting.{message_of}
 use Rattle.vm_machine.specs.declared.parts.Parts.{Parts}
@@ -43,6 +45,10 @@ pub takes-sound : (grant : Amounts) (s t : State) (pick : ℕ) (r : Result Answe
 takes-sound grant s t pick (Ok a) before after ok h = subst (λ (x : State). Sound grant x) (sym h.0) (unwritten-sound grant (turn s pick).0 (turn-sound grant s ok pick))
 takes-sound grant s t pick (Err f) before after ok h = subst (λ (x : State). Sound grant x) (sym h.0) ok
 
+pub takes-taken : (s t : State) (pick : ℕ) (r : Result Answer WriteFault) (before after : Option (List ℕ)) → WordsTaken s → Takes (turn s pick) r s t before after → WordsTaken t
+takes-taken s t pick (Ok a) before after ok h = let x = turn-taken s pick ok in subst WordsTaken (sym h.0) (record { image = x.image; cells = x.cells; flight = x.flight })
+takes-taken s t pick (Err f) before after ok h = subst WordsTaken (sym h.0) ok
+
 -- a message that can go is dispatched
 pub turn-dispatches : (s : State) (pick number : ℕ) (given : List W) → s.out_of ≡ None → option_map (message_of given) (Some number) ≡ dispatchable s
     → turn s pick ≡ dispatch s number (sent_at s.store (event_of given number)) (device_of (sent_at s.store (event_of given number)).target)
@@ -73,9 +79,17 @@ dispatch-takes p q b t pick number o r before after same out is found h =
     (sym (turn-dispatches (state_of p) pick number p.queue.given out (subst (λ (x : Option ℕ). option_map (message_of p.queue.given) x ≡ dispatchable (state_of p)) is found)))
     dispatched
 
--- where none was found, what every turn keeps stands after the instruction
-pub takes-one-sound : (grant : Amounts) (s t : State) (pick : ℕ) (a : Answer) (o : Option ℕ) (given : List W) → Sound grant s → s.out_of ≡ None → o ≡ None → option_map (message_of given) o ≡ dispatchable s → TakesOne s pick t a → Sound grant t
-takes-one-sound grant s t pick a o given ok out is found one =
-    subst (λ (x : State × Answer). Sound grant x.0)
-    (turn-steps s pick given out (subst (λ (x : Option ℕ). option_map (message_of given) x ≡ dispatchable s) is found) ∙ sym one)
-    (turn-sound grant s ok pick)
+-- where none was found the turn is the instruction
+pub one-turns : (s t : State) (pick : ℕ) (a : Answer) (o : Option ℕ) (given : List W) → s.out_of ≡ None → o ≡ None → option_map (message_of given) o ≡ dispatchable s → TakesOne s pick t a → turn s pick ≡ (t, a)
+one-turns s t pick a o given out is found one = turn-steps s pick given out (subst (λ (x : Option ℕ). option_map (message_of given) x ≡ dispatchable s) is found) ∙ sym one
+
+-- and what every turn keeps stands after it
+pub takes-one-sound : (grant : Amounts) (s t : State) (pick : ℕ) (a : Answer) → Sound grant s → turn s pick ≡ (t, a) → Sound grant t
+takes-one-sound grant s t pick a ok e = subst (λ (x : State × Answer). Sound grant x.0) e (turn-sound grant s ok pick)
+
+pub takes-one-taken : (s t : State) (pick : ℕ) (a : Answer) → WordsTaken s → turn s pick ≡ (t, a) → WordsTaken t
+takes-one-taken s t pick a ok e = subst (λ (x : State × Answer). WordsTaken x.0) e (turn-taken s pick ok)
+
+-- no turn changes the grant
+pub grant-kept : (p q r : Parts) → q ≡ record p { stuck = q.stuck } → r.grant ≡ q.grant → r.grant ≡ p.grant
+grant-kept p q r same e = e ∙ ap (λ (x : Parts). x.grant) same

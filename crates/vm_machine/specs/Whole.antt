@@ -13,6 +13,7 @@ use Rattle.vm_step.specs.Step.{sheet_in}
 use Rattle.vm_turn.specs.State.{State}
 use Rattle.vm_turn.specs.Turn.{first_to_go}
 use Rattle.vm_turn.specs.Sound.{Sound}
+use Rattle.vm_turn.specs.Authority.{WordsTaken}
 use Rattle.vm_machine.specs.declared.parts.Parts.{Parts}
 use Rattle.vm_machine.specs.View.{state_of}
 use Rattle.vm_machine.specs.Flight.{flight_of, Flies, Separate, Pairwise}
@@ -50,8 +51,10 @@ pub record Kept (p : Parts) : Type 0 where
 abbrev pub Waits : State → Type 0
 Waits s = first_to_go s.store s.sheet s.flight s.messages ≡ None
 
--- between turns also what every turn of the written machine keeps
+-- between turns also what every turn of the written machine keeps; and each RAM word in a cell, a stack, a next code or a record names a
+-- quad that is taken
 pub record Whole (p : Parts) : Type 0 where
   pub kept : Kept p
   pub sound : Sound p.grant (state_of p)
+  pub taken : WordsTaken (state_of p)
   pub waits : p.stuck ≡ true → Waits (state_of p)

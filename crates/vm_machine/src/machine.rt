@@ -131,10 +131,11 @@ impl Machine {
     }
 
     /// One turn, over the next pick of the seed. A call that finds the machine at rest, or its root run out, or a write that fails draws
-    /// none: the next call draws the same.
+    /// none: the next call draws the same, and nothing of the machine has changed.
     pub fn turn<K: Sink>(&mut self, out: &mut K) -> Result<Turn, WriteFault>
         ensures turn { Takes (turn self.old.state (pick_of (drawn (drawn_after self.old.seed self.old.turns)))) result self.old.state self.new.state (K.written out.old) (K.written out.new) }
         ensures turns { self.new.turns ≡ self.old.turns + turns_by self.old.state.out_of result }
+        ensures unchanged { turns_by self.old.state.out_of result ≡ 0 → self.new ≡ self.old }
         ensures image { self.new.image ≡ self.old.image }
         ensures grant { self.new.grant ≡ self.old.grant }
         ensures seed { self.new.seed ≡ self.old.seed }

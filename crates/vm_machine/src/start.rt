@@ -1,6 +1,6 @@
 // Messages that are dispatched.
 
-ghost use Rattle.std.specs.Prelude.{◌≡◌, ◌+◌, ◌<◌, ◌≤◌, Some, true, pos, length, slice_get, [], ◌∷◌, ◌++◌, vec_len, vec_capacity, IfSome};
+ghost use Rattle.std.specs.Prelude.{◌≡◌, ◌+◌, ◌<◌, ◌≤◌, Some, true, pos, length, slice_get, [], ◌∷◌, ◌++◌, vec_len, vec_capacity, IfSome, OnErr};
 ghost use Rattle.std.specs.List.{Contains};
 ghost use Rattle.cap_words.specs.Words.{W, Fix, undef};
 ghost use Rattle.cap_words.specs.Seen.{ActorSlot, EventSlot, seen, slot_seen};
@@ -74,6 +74,7 @@ fn deliver<K: Sink>(
     requires device { device < 2 }
     ensures kept { Kept parts.new }
     ensures turn { Takes (deliver (state_of parts.old) number (piece device (state_of parts.old).store message)) result (state_of parts.old) (state_of parts.new) (K.written out.old) (K.written out.new) }
+    ensures unchanged { OnErr result (parts.new ≡ parts.old) }
     ensures cause { HasCause (K.faults out.old) (K.faults out.new) result }
     ensures grant { parts.new.grant ≡ parts.old.grant }
     ensures stuck { parts.new.stuck ≡ parts.old.stuck }
@@ -125,6 +126,7 @@ pub(crate) fn dispatch<K: Sink>(
     ensures kept { Kept parts.new }
     ensures turn { Takes (dispatch (state_of parts.old) number (sent_at (state_of parts.old).store (event_of parts.old.queue.given number)) (device_of (sent_at (state_of parts.old).store (event_of parts.old.queue.given number)).target)) result
         (state_of parts.old) (state_of parts.new) (K.written out.old) (K.written out.new) }
+    ensures unchanged { OnErr result (parts.new ≡ parts.old) }
     ensures cause { HasCause (K.faults out.old) (K.faults out.new) result }
     ensures grant { parts.new.grant ≡ parts.old.grant }
     ensures stuck { parts.new.stuck ≡ parts.old.stuck }

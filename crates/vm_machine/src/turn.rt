@@ -6,6 +6,8 @@ ghost use Rattle.instr_table.specs.Code.{fetched};
 ghost use Rattle.instr_table.specs.Lane.{Lane as Flying};
 ghost use Rattle.hum_outside.specs.Outside.{HasCause};
 ghost use Rattle.vm_turn.specs.Turn.{step, turn};
+ghost use Rattle.vm_turn.specs.Run.{not_rest};
+ghost use Rattle.vm_machine.specs.Machine.{turns_by};
 ghost use Rattle.vm_machine.specs.Steps.{StepsTo, TakesOne, starts};
 ghost use Rattle.vm_machine.specs.Turns.{Takes};
 ghost use Rattle.vm_machine.specs.View.{state_of};
@@ -88,6 +90,7 @@ fn take_one(parts: &mut Parts, pick: u32) -> Turn
     ensures waits { parts.new.stuck ≡ true → Waits (state_of parts.new) }
     ensures grant { parts.new.grant ≡ parts.old.grant }
     ensures turn { TakesOne (state_of parts.old) pick (state_of parts.new) result }
+    ensures unchanged { not_rest result ≡ false → parts.new ≡ parts.old }
 {
     let count = parts.flight.len();
     if count == 0 {
@@ -106,6 +109,7 @@ pub(crate) fn turn<K: Sink>(
     requires whole { Whole parts.old }
     ensures whole { Whole parts.new }
     ensures turn { Takes (turn (state_of parts.old) pick) result (state_of parts.old) (state_of parts.new) (K.written out.old) (K.written out.new) }
+    ensures unchanged { turns_by parts.old.out_of result ≡ 0 → parts.new ≡ record parts.old { stuck = parts.new.stuck } }
     ensures cause { HasCause (K.faults out.old) (K.faults out.new) result }
     ensures grant { parts.new.grant ≡ parts.old.grant }
 {

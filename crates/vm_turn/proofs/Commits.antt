@@ -29,9 +29,7 @@ use Rattle.vm_turn.proofs.Taken.{every-get, reached-back}
 use Rattle.vm_turn.proofs.WordsKept.{turn-taken, run-taken, after-taken}
 use Rattle.vm_turn.proofs.FlightActors.{settled-own, turn-flight, after-flight, run-flight}
 use Rattle.vm_turn.proofs.Rights.{reached-more, turn-reads, events-keep_authority}
-
-some_is : {X : Type 0} {x y : X} → Some x ≡ Some y → x ≡ y
-some_is h = cc
+use Rattle.vm_turn.proofs.Sums.{some_is}
 
 -- the number in an answer's entry
 abbrev number_in : Answer → ℕ

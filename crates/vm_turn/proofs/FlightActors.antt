@@ -37,7 +37,7 @@ use Rattle.vm_turn.specs.Turn.{is_in_flight, first_to_go, dispatchable, signal_n
 use Rattle.vm_turn.specs.Boot.{booted}
 use Rattle.vm_turn.specs.Run.{after, run}
 use Rattle.vm_turn.specs.Sound.{Sound, times, sent_by, created_by, IsSentIn, StandsIn, FlightSound}
-use Rattle.vm_turn.proofs.Sums.{sum-removed, sum-set, sum-at, how_often}
+use Rattle.vm_turn.proofs.Sums.{some_is, sum-removed, sum-set, sum-at, how_often}
 use Rattle.vm_turn.proofs.Numbers.{rest-other}
 use Rattle.vm_turn.proofs.Slots.{length-going, alike-busy, alike-settled}
 use Rattle.vm_turn.proofs.Events.{IsNext, Placed, placed-same, placed-named, times-among}
@@ -50,9 +50,6 @@ use Rattle.vm_turn.proofs.Places.{other-at, signal-not_sent, flight-numbers}
 use Rattle.vm_turn.proofs.Rights.{at-removed, at-set, released-alike}
 
 -- ---- lists
-
-some_is : {X : Type 0} {x y : X} → Some x ≡ Some y → x ≡ y
-some_is h = cc
 
 every-by : {A : Type 0} (P : A → Type 0) (xs : List A) → ((i : ℕ) (x : A) → slice_get xs i ≡ Some x → P x) → Every P xs
 every-by P [] f = tt

@@ -18,3 +18,4 @@ pub mod Runs
 pub mod Started
 pub mod FlightActors
 pub mod Commits
+pub mod Order

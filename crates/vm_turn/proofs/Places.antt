@@ -11,13 +11,10 @@ use Rattle.vm_sponsor.specs.declared.amounts.Amounts.{Amounts}
 use Rattle.vm_turn.specs.State.{Message, State}
 use Rattle.vm_turn.specs.Sound.{Sound, numbers, Other, Distinct, Has, Rising, message_words, sent_by, as_list, signals_of, times}
 use Rattle.vm_turn.proofs.Numbers.{has-at}
-use Rattle.vm_turn.proofs.Sums.{sum-at}
+use Rattle.vm_turn.proofs.Sums.{some_is, sum-at}
 use Rattle.vm_turn.proofs.Events.{times-among, times-cons, times-head}
 
 -- ---- lists
-
-some_is : {X : Type 0} {x y : X} → Some x ≡ Some y → x ≡ y
-some_is h = cc
 
 -- the account of a sponsor counts no more than all
 pub account-under : (f : Account → ℕ) (rows : List Account) (w : W) → f (no_account w) ≡ 0 → f (account rows w) ≤ sum_by f rows
@@ -51,7 +48,7 @@ one-place (k ∷ ms) w o (suc i) (suc j) m n a b e f =
 
 -- ---- numbers
 
-rising-first : (first last : ℕ) (ms : List Message) (i : ℕ) (m : Message) → Rising first last ms → slice_get ms i ≡ Some m → first ≤ m.number
+pub rising-first : (first last : ℕ) (ms : List Message) (i : ℕ) (m : Message) → Rising first last ms → slice_get ms i ≡ Some m → first ≤ m.number
 rising-first first last [] i m r h = cc
 rising-first first last (k ∷ ms) zero m r h = let e : k.number ≡ m.number = ap (λ (x : Message). x.number) (some_is h) in let f = r.0 in omega (arith, e, f)
 rising-first first last (k ∷ ms) (suc i) m r h = let f = r.0 in let g = rising-first (suc k.number) last ms i m r.1 h in omega (arith, f, g)

@@ -33,11 +33,9 @@ use Rattle.vm_turn.proofs.RunsSound.{run-sound}
 use Rattle.vm_turn.proofs.TurnCases.{IsPicked, turn-by}
 use Rattle.vm_turn.proofs.Taken.{Reads, every-get, reached-back, alike-reads, going-reads}
 use Rattle.vm_turn.proofs.WordsKept.{begun-taken, turn-taken, run-taken}
+use Rattle.vm_turn.proofs.Sums.{some_is}
 
 -- ---- lists
-
-some_is : {X : Type 0} {x y : X} → Some x ≡ Some y → x ≡ y
-some_is h = cc
 
 -- what stands in a list after an item was removed, put in or added stood there before, or is the new one
 pub at-removed : (ls : List Lane) (i j : ℕ) (k : Lane) → slice_get (remove ls i) j ≡ Some k → (p : ℕ) × (slice_get ls p ≡ Some k)

@@ -18,11 +18,9 @@ use Rattle.vm_effects.specs.Actors.{all_idle}
 use Rattle.vm_turn.specs.Actors.{sent_at, sent_in, behaviour_in, behaviour_at, at_actor, remade, refilled, with_content, busy, resting, settled}
 use Rattle.vm_turn.specs.Authority.{LaneTaken}
 use Rattle.vm_turn.proofs.Slots.{Alike}
+use Rattle.vm_turn.proofs.Sums.{some_is}
 
 -- ---- lists
-
-some_is : {X : Type 0} {x y : X} → Some x ≡ Some y → x ≡ y
-some_is h = cc
 
 pub every-get : {A : Type 0} (P : A → Type 0) (xs : List A) (n : ℕ) (x : A) → Every P xs → slice_get xs n ≡ Some x → P x
 every-get P [] n x e h = cc

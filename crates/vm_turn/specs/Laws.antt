@@ -1,5 +1,5 @@
 -- What is so of every run.
-use Rattle.std.specs.Prelude.{◌≡◌, ℕ, ◌+◌, ◌*◌, ◌≤◌, List, length}
+use Rattle.std.specs.Prelude.{◌≡◌, ℕ, ◌+◌, ◌*◌, ◌<◌, ◌≤◌, true, false, List, length, slice_get, Some, None}
 use Rattle.cap_words.specs.Words.{W}
 use Rattle.quad_memory.specs.Image.{RomImage}
 use Rattle.instr_table.specs.declared.charge.Quota.{Quota}
@@ -7,9 +7,10 @@ use Rattle.instr_table.specs.declared.charge.Quota.TheVariants.{Memory}
 use Rattle.vm_sponsor.specs.declared.amounts.Amounts.{Amounts}
 use Rattle.vm_sponsor.specs.Ledger.{of_kind}
 use Rattle.vm_sponsor.specs.Totals.{total, IsBalanced, Each}
-use Rattle.vm_turn.specs.State.{State}
+use Rattle.vm_turn.specs.State.{Message, State}
 use Rattle.vm_turn.specs.Boot.{booted}
 use Rattle.vm_turn.specs.Sound.{held_by_all, places}
+use Rattle.vm_turn.specs.Turn.{can_go, dispatchable}
 use Rattle.vm_turn.specs.Run.{run, completed}
 
 -- over every image, grant, number of lanes and list of picks, no more turns are completed than the cycles and twice the messages that were
@@ -35,3 +36,22 @@ GrantsAreConserved = (image : RomImage) (grant : Amounts) (lanes : ℕ) (picks :
 -- a signal
 abbrev pub EventsStandOnce : Type 0
 EventsStandOnce = (image : RomImage) (grant : Amounts) (lanes : ℕ) (picks : List ℕ) (w : W) → places w (run image grant lanes picks) ≤ 1
+
+-- a lane is free, and of the unfinished messages that can go this is the one with the least number
+pub record IsNext (s : State) (m : Message) : Type 0 where
+  pub free : length s.flight < s.lanes
+  pub place : ℕ
+  pub waits : slice_get s.messages place ≡ Some m
+  pub goes : can_go s.store s.sheet s.flight m ≡ true
+  pub least : (p : ℕ) (k : Message) → slice_get s.messages p ≡ Some k → can_go s.store s.sheet s.flight k ≡ true → m.number ≤ k.number
+
+-- after every run the message that is dispatched next is that one
+abbrev pub LeastGoesFirst : Type 0
+LeastGoesFirst = (image : RomImage) (grant : Amounts) (lanes : ℕ) (picks : List ℕ) (m : Message) → dispatchable (run image grant lanes picks) ≡ Some m → IsNext (run image grant lanes picks) m
+
+-- and where no message is dispatched next though a lane is free, none can go
+abbrev pub OthersWait : Type 0
+OthersWait =
+    (image : RomImage) (grant : Amounts) (lanes : ℕ) (picks : List ℕ) (p : ℕ) (k : Message) → dispatchable (run image grant lanes picks) ≡ None
+    → length (run image grant lanes picks).flight < (run image grant lanes picks).lanes → slice_get (run image grant lanes picks).messages p ≡ Some k
+    → can_go (run image grant lanes picks).store (run image grant lanes picks).sheet (run image grant lanes picks).flight k ≡ false

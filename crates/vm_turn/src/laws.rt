@@ -1,6 +1,6 @@
 // What is so of every run.
 
-ghost use Rattle.vm_turn.specs.Laws.{TurnsEnd, AccountsAddUp, GrantsAreConserved, EventsStandOnce};
+ghost use Rattle.vm_turn.specs.Laws.{TurnsEnd, AccountsAddUp, GrantsAreConserved, EventsStandOnce, LeastGoesFirst, OthersWait};
 ghost use Rattle.vm_turn.specs.Changes.{TurnsChange};
 ghost use Rattle.vm_turn.specs.Authority.{EventsHaveBegun, EventsKeepAuthority, CommitsKeepAuthority};
 
@@ -27,9 +27,23 @@ pub fn events_stand_once()
     ensures { EventsStandOnce }
 {}
 
-/// What a turn changes is told by its answer. An instruction that goes on changes its own lane, new quads and the sheet. An event that
-/// fails or runs out adds its entry, ends its message and makes its actor idle with the behaviour that it had: no other behaviour, and no
-/// roll, output or other message changes. An event that runs out also stops its sponsor, whose prepared signal becomes a message.
+/// After every run the message that is dispatched next, a device's too, is the one with the least number of those that can go, and a lane is
+/// free. A message can go that is not in flight, whose target is idle and whose sponsor runs.
+pub fn least_goes_first()
+    ensures { LeastGoesFirst }
+{}
+
+/// After every run in which a lane is free and no message is dispatched next, none can go.
+pub fn others_wait()
+    ensures { OthersWait }
+{}
+
+/// What a turn changes is told by its answer. An event begins where a lane is free, with the first message that can go. An instruction that
+/// goes on changes its own lane, new quads and the sheet. An event that fails or runs out adds its entry, ends its message and makes its
+/// actor idle with the behaviour that it had: no other behaviour, and no roll, output or other message changes. An event that runs out also
+/// stops its sponsor, whose prepared signal becomes a message. Bytes are written by a device alone, for the first message that can go, and
+/// they are its piece; one that it refuses fails with 8. At rest nothing is in flight and no message can be dispatched. The root's running
+/// out ends the run.
 pub fn turns_change()
     ensures { TurnsChange }
 {}

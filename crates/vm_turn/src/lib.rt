@@ -6,7 +6,7 @@
 //!
 //! The laws are functions without a body: `turns_end` says how many turns can be completed, `turns_change` what a turn may change,
 //! `accounts_add_up` what each account keeps, `grants_are_conserved` that what is spent and held is the grant, and `events_stand_once` that
-//! no event stands at two places. `events_keep_authority` and `commits_keep_authority` say what an event gets at and hands on: what it had
+//! no event stands at two places. `least_goes_first` and `others_wait` say which message is dispatched. `events_keep_authority` and `commits_keep_authority` say what an event gets at and hands on: what it had
 //! at its dispatch and what it made since; `events_have_begun` says that there was a dispatch.
 //!
 //! What every turn keeps is `Sound` and `FlightSound` in `specs/Sound.antt`, and `WordsTaken` in `specs/Authority.antt`. Crates above cite
@@ -20,7 +20,8 @@ mod laws;
 pub use journal::{Entry, Outcome, Turn};
 pub use laws::{
     accounts_add_up, commits_keep_authority, events_have_begun, events_keep_authority,
-    events_stand_once, grants_are_conserved, turns_change, turns_end,
+    events_stand_once, grants_are_conserved, least_goes_first, others_wait, turns_change,
+    turns_end,
 };
 
 #[cfg(test)]

@@ -29,7 +29,7 @@ returns-in-Fault-clause-refused c at why same =
 
 pub returns-clause-only : goal.returns-clause-only
 returns-clause-only c ts tokens = one_list c.args.bytes.now (all_placed c.loop-at.tokens.items) ts
-    (reached_end c.args.bytes.now c.loop-at.called c.loop-at.at c.loop-at.weighed (all_placed c.loop-at.tokens.items) c.loop-at.invariant c.loop-at-test.false) tokens
+    (reached_end c.args.bytes.now c.loop-at.called c.loop-at.at c.loop-at.weighed (all_placed c.loop-at.tokens.items) c.loop-at.invariant c.loop-at-test.false).lexes tokens.lexes
 
 pub returns-in-Err-clause-only : goal.returns-in-Err-clause-only
 returns-in-Err-clause-only c ts tokens =

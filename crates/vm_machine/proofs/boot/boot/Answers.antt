@@ -1,3 +1,7 @@
+use Rattle.std.proofs.Common.{subst}
+use Rattle.std.specs.Prelude.{IsTrue}
+use Rattle.cap_words.specs.Words.{W}
+use Rattle.quad_memory.specs.Image.{is_image}
 use Rattle.vm_machine.proofs.Booting.{whole-booted, state-booted}
 use Rattle.vm_machine.proofs.boot.boot.Goals as goal
 
@@ -10,6 +14,7 @@ returns-clause-whole c =
     c.in_ok-quads.ensures c.in_ok-sheet.ensures.sheet c.in_ok-sheet.ensures.belongs c.in_ok-sheet.ensures.room c.in_ok-sheet.ensures.transfers c.in_ok-sheet.ensures.seen c.with_root.ensures.quads_room
     c.take_actors-words.ensures.seen c.take_actors-words.ensures.frame c.take_actors-words.ensures.room c.in_ok-queue.ensures c.in_ok-roll.ensures.items c.in_ok-roll.ensures.capacity
     c.in_ok-flight.ensures.items c.in_ok-flight.ensures.len c.in_ok-flight.ensures.capacity c.in_ok-journal.ensures.items c.in_ok-journal.ensures.capacity
+    (subst (λ (w : W). IsTrue (is_image w c.args.image.now.cells)) c.boot.ensures.value c.boot.ensures.is_image)
 
 pub returns-clause-state : goal.returns-clause-state
 returns-clause-state c =

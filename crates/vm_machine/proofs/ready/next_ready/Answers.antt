@@ -7,6 +7,7 @@ pub returns-clause-whole : goal.returns-clause-whole
 returns-clause-whole c = record {
   kept = kept-stuck c.args.parts.now c.is_none-parts.result c.requires.whole.kept;
   sound = c.requires.whole.sound;
+  taken = c.requires.whole.taken;
   waits = λ h. found-none c.args.parts.now c.first_ready-found.result c.requires.whole.kept c.first_ready-found.ensures.value (ap not c.is_none-parts.ensures ∙ ap (λ (b : Bool). not (not b)) h);
 }
 
