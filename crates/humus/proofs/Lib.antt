@@ -1,2 +1,9 @@
 mod Results
 mod Texts
+mod Causes
+mod Gathers
+mod Complete
+mod Turned
+mod Driven
+mod Failures
+mod Executed

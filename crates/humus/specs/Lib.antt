@@ -1,3 +1,14 @@
+pub mod Outside
+pub mod Keys
 pub mod Words
 pub mod Report
+pub mod Failure
+pub mod Drive
+pub mod Refusals
+pub mod Link
+pub mod Files
+pub mod Load
+pub mod Loads
+pub mod Exec
 pub mod Answers
+pub mod Runs

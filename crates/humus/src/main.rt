@@ -1,16 +1,28 @@
-//! `humus run FILE`: runs a Humus text.
+//! `humus run FILE` runs a Humus text; `humus link FILE FILE ..` links modules of assembly to an image;
+//! `humus exec FILE KEYS` runs an image, or a module that links alone.
 //!
 //! `humus_main` does what the words say over any folder and sinks; `main` calls it with the real ones.
 #![tactic(auto)]
 
 mod answer;
+mod drive;
+mod exec;
+mod failure;
+mod keys;
+mod link;
+mod load;
+mod record;
+mod refusal;
 mod report;
+mod run;
 mod top;
+mod words;
 
 use hum_outside::{HostFolder, HostSink};
+use record::Record;
 use std::process::ExitCode;
 use std::{env, io};
-use top::{Record, humus_main};
+use top::humus_main;
 
 // The status where the runtime does not hand the words as texts.
 const NO_WORDS: u8 = 8;
@@ -42,5 +54,7 @@ fn main(rt: HostRuntime) -> ExitCode {
     ))
 }
 
+#[cfg(test)]
+mod drive_tests;
 #[cfg(test)]
 mod tests;

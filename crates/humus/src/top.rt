@@ -1,85 +1,141 @@
 // The whole program over any folder and sinks.
-ghost use Rattle.std.specs.Prelude.{◌≡◌, ◌⊎◌, ◌<◌, ◌≤◌, ℕ, ℤ, List, length, map, Some, None, false, IfOk, IfErr, OnOk, OnErr, string_bytes};
-ghost use Rattle.std.specs.Option.{option_copied, option_map};
-ghost use Rattle.hum_outside.specs.Outside.{told, Rose, appended};
+ghost use Rattle.std.specs.Prelude.{◌≡◌, ◌⊎◌, ◌≤◌, ℕ, ℤ, List, length, map, Option, Some, None, Ok, string_bytes};
+ghost use Rattle.hum_outside.specs.Outside.{told, Rose};
+ghost use Rattle.uasm_read.specs.Modules.{ModuleParts};
+ghost use Rattle.uasm_read.specs.Links.{link_fault};
 ghost use Rattle.hum_run.specs.Text.{IsFirstForm};
-ghost use Rattle.hum_run.specs.Run.{started};
-ghost use Rattle.humus.specs.Words.{file_named};
-ghost use Rattle.humus.specs.Answers.{Answered, Cause, Completes, BreaksOff, writes, status_of, TextIs, text_limit};
+ghost use Rattle.humus.specs.Outside.{writes};
+ghost use Rattle.humus.specs.Keys.{WithinLimits};
+ghost use Rattle.humus.specs.Words as asked;
+ghost use Rattle.humus.specs.Link.{AreTold, modules_of};
+ghost use Rattle.humus.specs.Load.{Loads};
+ghost use Rattle.humus.specs.declared.keys.Keys.{Keys as AnyKeys};
+ghost use Rattle.quad_memory.specs.Image.{RomImage};
+ghost use Rattle.humus.specs.Answers.{Answered, EndsRun, status_of, text_limit};
 ghost use Rattle.humus.specs.declared.answer.Answer.{Answer as AnyAnswer};
+ghost use Rattle.humus.specs.declared.record.Record.{Record as AnyRecord};
 
 use crate::answer::Answer;
-use crate::report::{put_counts, refuse};
-use hum_outside::{Failed, Folder, ReadError, Sink, read_all};
-use hum_run::{Run, StartError, Stop};
+use crate::exec::{booted, run_machine};
+use crate::keys::Keys;
+use crate::link::link_files;
+use crate::load::load_file;
+use crate::record::Record;
+use crate::report::refuse;
+use crate::run::{finish, load_run};
+use crate::words::{Command, command_of};
+use hum_outside::{Failed, Folder, Sink, put_all};
 use std::alloc::Global;
 
-const TEXT_LIMIT: u64 = 1048576;
-
-/// What the last command left.
-#[derive(Drop)]
-pub struct Record {
-    run: Option<Run>,
-}
-
-impl Record {
-    /// Nothing was left yet.
-    pub fn empty() -> Record
-        ensures { result.run ≡ None }
-    {
-        Record { run: None }
-    }
-
-    /// The run that `run` left.
-    pub fn run(&self) -> Option<&Run>
-        ensures { option_copied result ≡ self.now.run }
-    {
-        self.run.as_ref()
-    }
-}
-
-// The file that the words `run FILE` name.
-fn file_named(words: &[String]) -> Option<&str>
-    ensures { option_map (λ name. name.now) result ≡ file_named (map string_bytes words.now) }
+// Runs the text of a file.
+fn run_text<F: Folder, K: Sink>(
+    alloc: Global,
+    name: &str,
+    files: &mut F,
+    out: &mut K,
+    err: &mut K,
+    last: &mut Record,
+) -> Answer
+    ensures { (words : List (List ℕ)) → asked.command_of words ≡ Some (asked.Run name.now) → Answered result (record {
+      words = words;
+      files = F.files files.old;
+      faults_old = F.faults files.old;
+      faults_new = F.faults files.new;
+      out = writes (K.written out.old) (K.written out.new) (K.faults out.old) (K.faults out.new);
+      err = writes (K.written err.old) (K.written err.new) (K.faults err.old) (K.faults err.new);
+      last_old = last.old;
+      last_new = last.new;
+    }) }
 {
-    match words {
-        [command, name] if command.as_str() == "run" && !name.is_empty() => Some(name.as_str()),
-        _ => None,
+    match load_run(alloc, files, name) {
+        Err(answer) => {
+            refuse(err, &answer, name);
+            answer
+        }
+        Ok(run) => {
+            let mut run = run;
+            let finished = finish(&mut run, out, err);
+            last.leave_run(run);
+            match finished {
+                Ok(()) => Answer::Done,
+                Err(Failed) => Answer::Fault,
+            }
+        }
     }
 }
 
-// The run of a file's text before its first event.
-fn load<F: Folder>(alloc: Global, files: &mut F, name: &str) -> Result<Run, Answer>
-    ensures started { IfOk result (λ run. (numbers : List ℤ) × (run ≡ started numbers) × TextIs (λ bytes. (length bytes ≤ text_limit) × IsFirstForm bytes numbers) (told (F.files files.old) name.now)) }
-    ensures refused { IfErr result (λ answer. Cause answer (F.faults files.old) (F.faults files.new) (told (F.files files.old) name.now)) }
+// Links files, and writes the bytes of the image.
+fn link_to<F: Folder, K: Sink>(
+    alloc: Global,
+    names: &[String],
+    files: &mut F,
+    out: &mut K,
+    err: &mut K,
+) -> Answer
+    ensures { (words : List (List ℕ)) (last : AnyRecord) →
+        asked.command_of words ≡ Some (asked.Link (map string_bytes names.now)) → Answered result (record {
+          words = words;
+          files = F.files files.old;
+          faults_old = F.faults files.old;
+          faults_new = F.faults files.new;
+          out = writes (K.written out.old) (K.written out.new) (K.faults out.old) (K.faults out.new);
+          err = writes (K.written err.old) (K.written err.new) (K.faults err.old) (K.faults err.new);
+          last_old = last;
+          last_new = last;
+        }) }
 {
-    let bytes = match read_all(alloc, files, name, TEXT_LIMIT) {
-        Ok(bytes) => bytes,
-        Err(ReadError::NoMemory) => return Err(Answer::NoMemory),
-        Err(ReadError::Failed) => return Err(Answer::Unread),
-        Err(ReadError::TooLong) => return Err(Answer::TooLong),
+    match link_files(alloc, files, names) {
+        Err(refused) => {
+            refuse(err, &refused.answer, refused.name);
+            refused.answer
+        }
+        Ok(bytes) => match put_all(out, &bytes) {
+            Ok(_) => Answer::Done,
+            Err(_) => Answer::Fault,
+        },
+    }
+}
+
+// Runs the image that a file holds.
+fn exec_file<F: Folder, K: Sink>(
+    alloc: Global,
+    name: &str,
+    keys: Keys,
+    files: &mut F,
+    out: &mut K,
+    err: &mut K,
+    last: &mut Record,
+) -> Answer
+    requires { WithinLimits keys }
+    ensures { (words : List (List ℕ)) → asked.command_of words ≡ Some (asked.Exec name.now keys) → Answered result (record {
+      words = words;
+      files = F.files files.old;
+      faults_old = F.faults files.old;
+      faults_new = F.faults files.new;
+      out = writes (K.written out.old) (K.written out.new) (K.faults out.old) (K.faults out.new);
+      err = writes (K.written err.old) (K.written err.new) (K.faults err.old) (K.faults err.new);
+      last_old = last.old;
+      last_new = last.new;
+    }) }
+{
+    let image = match load_file(alloc, files, name) {
+        Ok(image) => image,
+        Err(answer) => {
+            refuse(err, &answer, name);
+            return answer;
+        }
     };
-    match Run::start(alloc, &bytes) {
-        Ok(run) => Ok(run),
-        Err(StartError::NoMemory) => Err(Answer::NoMemory),
-        Err(StartError::NotBuilt) => Err(Answer::NotBuilt),
-    }
-}
-
-// Finishes the events of a run, and writes the line of counts.
-fn finish<K: Sink>(run: &mut Run, out: &mut K, err: &mut K) -> Result<(), Failed>
-    requires { run.old.broken ≡ false }
-    ensures completes { (numbers : List ℤ) → run.old ≡ started numbers → OnOk result (Completes run.new
-        (writes (K.written out.old) (K.written out.new) (K.faults out.old) (K.faults out.new))
-        (writes (K.written err.old) (K.written err.new) (K.faults err.old) (K.faults err.new)) numbers) }
-    ensures breaks { (numbers : List ℤ) → run.old ≡ started numbers → OnErr result (BreaksOff run.new
-        (writes (K.written out.old) (K.written out.new) (K.faults out.old) (K.faults out.new))
-        (writes (K.written err.old) (K.written err.new) (K.faults err.old) (K.faults err.new)) numbers) }
-{
-    match run.advance(None, out, err) {
-        Ok(Stop::Rest) => put_counts(err, run.report()),
-        Ok(Stop::Broken) => unreachable!(),
-        Err(_) => Err(Failed),
+    match booted(alloc, &image, keys) {
+        Ok(machine) => {
+            let mut machine = machine;
+            let answer = run_machine(&mut machine, keys, out, err);
+            last.leave_machine(machine);
+            answer
+        }
+        Err(_) => {
+            refuse(err, &Answer::NoMemory, name);
+            Answer::NoMemory
+        }
     }
 }
 
@@ -99,35 +155,28 @@ fn answer<F: Folder, K: Sink>(
       faults_new = F.faults files.new;
       out = writes (K.written out.old) (K.written out.new) (K.faults out.old) (K.faults out.new);
       err = writes (K.written err.old) (K.written err.new) (K.faults err.old) (K.faults err.new);
-      run_old = last.old.run;
-      run_new = last.new.run;
+      last_old = last.old;
+      last_new = last.new;
     }) }
 {
-    let Some(name) = file_named(words) else {
-        refuse(err, Answer::Usage, "");
-        return Answer::Usage;
-    };
-    match load(alloc, files, name) {
-        Err(answer) => {
-            refuse(err, answer, name);
-            answer
+    match command_of(words) {
+        None => {
+            refuse(err, &Answer::Usage, "");
+            Answer::Usage
         }
-        Ok(run) => {
-            let mut run = run;
-            let finished = finish(&mut run, out, err);
-            last.run = Some(run);
-            match finished {
-                Ok(()) => Answer::Done,
-                Err(Failed) => Answer::Fault,
-            }
-        }
+        Some(Command::Run(name)) => run_text(alloc, name, files, out, err, last),
+        Some(Command::Link(names)) => link_to(alloc, names, files, out, err),
+        Some(Command::Exec(name, keys)) => exec_file(alloc, name, keys, files, out, err, last),
     }
 }
 
-/// Does what the words say over these files and sinks, and gives the exit status; `last` is left the run, if one was started.
+/// Does what the words say over these files and sinks, and gives the exit status; `last` is left the run or the machine, if one was
+/// started.
 ///
-/// The words are `run FILE`. The statuses, their causes and what each leaves are the definitions of specs/Answers: 0 done, 1 the words have no
-/// form, 2 the file could not be read, 3 its text is too long, 4 a write failed, 7 no memory, 12 the text has a form that is not built yet.
+/// The words are `run FILE`, `link FILE FILE ..` or `exec FILE KEYS`. The statuses, their causes and what each leaves are the definitions
+/// of specs/Answers: 0 done, 1 the words have no form, 2 a file could not be read, 3 a text is too long, 4 a write failed, 5 the root ran
+/// out, 6 the bound is reached, 7 no memory, 9 an event failed, 10 an image, a module or linking is refused, 12 the text has a form that
+/// is not built yet.
 pub fn humus_main<F: Folder, K: Sink>(
     alloc: Global,
     words: &[String],
@@ -144,17 +193,32 @@ pub fn humus_main<F: Folder, K: Sink>(
       faults_new = F.faults files.new;
       out = writes (K.written out.old) (K.written out.new) (K.faults out.old) (K.faults out.new);
       err = writes (K.written err.old) (K.written err.new) (K.faults err.old) (K.faults err.new);
-      run_old = last.old.run;
-      run_new = last.new.run;
+      last_old = last.old;
+      last_new = last.new;
     }) }
 
     // A text within the limit that has the form is run to its end, where no count rises and there is memory.
     ensures complete { (name bytes : List ℕ) (numbers : List ℤ) →
-        file_named (map string_bytes words.now) ≡ Some name → told (F.files files.old) name ≡ Some (Some bytes) →
+        asked.command_of (map string_bytes words.now) ≡ Some (asked.Run name) → told (F.files files.old) name ≡ Some (Some bytes) →
         length bytes ≤ text_limit → IsFirstForm bytes numbers →
         ¬ (Rose (F.faults files.old) (F.faults files.new)) →
         ¬ (Rose (K.faults out.old) (K.faults out.new)) →
         ¬ (Rose (K.faults err.old) (K.faults err.new)) → (result ≡ 0) ⊎ (result ≡ 7) }
+
+    // Files whose texts are modules that link are linked, where no count rises and there is memory.
+    ensures links { (names texts : List (List ℕ)) (modules : List ModuleParts) →
+        asked.command_of (map string_bytes words.now) ≡ Some (asked.Link names) → AreTold (F.files files.old) names texts →
+        modules_of names texts ≡ Ok modules → link_fault modules ≡ None →
+        ¬ (Rose (F.faults files.old) (F.faults files.new)) →
+        ¬ (Rose (K.faults out.old) (K.faults out.new)) → (result ≡ 0) ⊎ (result ≡ 7) }
+
+    // A file that holds an image is run: to rest, until the root runs out, or to the bound, where no count rises and there is memory.
+    ensures runs { (name bytes : List ℕ) (keys : AnyKeys) (image : RomImage) →
+        asked.command_of (map string_bytes words.now) ≡ Some (asked.Exec name keys) → told (F.files files.old) name ≡ Some (Some bytes) →
+        Loads bytes image →
+        ¬ (Rose (F.faults files.old) (F.faults files.new)) →
+        ¬ (Rose (K.faults out.old) (K.faults out.new)) →
+        ¬ (Rose (K.faults err.old) (K.faults err.new)) → EndsRun keys.bound result }
 {
     let answer = answer(alloc, words, files, out, err, last);
     answer.status()

@@ -5,7 +5,7 @@ use Rattle.hum_run.specs.Run.{RunState, report_of, Breaks}
 use Rattle.hum_run.proofs.Outputs.{finishes-started, breaks-started}
 use Rattle.humus.specs.Report.{counts_line}
 use Rattle.humus.proofs.Results.{on_ok-map, on_err-map}
-use Rattle.humus.proofs.top.finish.Goals as goal
+use Rattle.humus.proofs.run.finish.Goals as goal
 
 pub returns-in-Ok-Rest-clause-completes : goal.returns-in-Ok-Rest-clause-completes
 returns-in-Ok-Rest-clause-completes g c = λ numbers fresh.

@@ -3,7 +3,7 @@ use Rattle.hum_outside.specs.Outside.{told}
 use Rattle.hum_run.specs.Text.{IsFirstForm}
 use Rattle.humus.specs.Answers.{text_limit}
 use Rattle.humus.proofs.Texts.{text_is}
-use Rattle.humus.proofs.top.load.Goals as goal
+use Rattle.humus.proofs.run.load_run.Goals as goal
 
 pub returns-in-Ok-start-clause-started : goal.returns-in-Ok-start-clause-started
 returns-in-Ok-start-clause-started g c =

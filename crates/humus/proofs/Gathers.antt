@@ -1,0 +1,115 @@
+-- Reading files one after another.
+use Rattle.std.proofs.Common.{◌≡◌, ◌∙◌, ℕ, ◌+◌, ◌<◌, ◌≤◌, List, [], ◌∷◌, length, Option, Some, None, Result, Ok, Err, refl, sym, ap, subst, inl, inr, ⊎_elim, append_assoc, append-nil, arith}
+use Rattle.std.proofs.lemmas.List.{length-replicate}
+use Rattle.std.proofs.lemmas.Bool.{cond-true, lt-ltb}
+use lib.ListN.{replicate}
+use Rattle.hum_outside.specs.Outside.{Files, told, Rose}
+use Rattle.uasm_read.specs.declared.error.UasmRefused.{UasmRefused}
+use Rattle.uasm_read.specs.declared.error.UasmCause.TheVariants as cause
+use Rattle.uasm_read.specs.Modules.{ModuleParts}
+use Rattle.uasm_read.specs.Assembles.{assembled, text_limit}
+use Rattle.humus.specs.Outside.{TextIs}
+use Rattle.humus.specs.Link.{HaveTexts, BadText, both, of_file, modules_of}
+use Rattle.humus.specs.Files.{IsAmong, Fails, IsRead, ReadTo, LinkFails}
+use Rattle.humus.specs.declared.answer.Answer.{Answer}
+use Rattle.humus.specs.declared.answer.Answer.TheVariants.{Done, Usage, Unread, TooLong, Fault, Spent, Bound, NoMemory, EventFailed, Refused, NotBuilt}
+
+-- ---- lists read in two parts
+
+pub both-assoc : {A E : Type 0} (a b c : Result (List A) E) → both (both a b) c ≡ both a (both b c)
+both-assoc (Err e) b c = refl
+both-assoc (Ok xs) (Err e) c = refl
+both-assoc (Ok xs) (Ok ys) (Err e) = refl
+both-assoc (Ok xs) (Ok ys) (Ok zs) = ap Ok (append_assoc xs ys zs)
+
+both-start : {A E : Type 0} (a : Result (List A) E) → both (Ok []) a ≡ a
+both-start (Err e) = refl
+both-start (Ok xs) = refl
+
+both-end : {A E : Type 0} (a : Result (List A) E) → both a (Ok []) ≡ a
+both-end (Err e) = refl
+both-end (Ok xs) = ap Ok (append-nil xs)
+
+-- ---- a text that is too long
+
+longer : (n : ℕ) → (text : List ℕ) × (n < length text)
+longer n = (replicate (n + 1) 0, omega (arith, length-replicate {A = ℕ} (n + 1) 0))
+
+long : (text : List ℕ) → text_limit < length text → Err (record { line = 1; cause = cause.TooLong }) ≡ assembled (Some text_limit) text
+long text more = sym (cond-true _ _ _ (lt-ltb text_limit (length text) more))
+
+-- a file that is read to be too long has such a text, as far as it is told
+pub told_longer : (limit : ℕ) (file : Option (Option (List ℕ))) → ((bytes : List ℕ) → file ≡ Some (Some bytes) → limit < length bytes)
+    → (file ≡ Some None → ⊥) → (text : List ℕ) × TextIs (λ told. told ≡ text) file × (limit < length text)
+told_longer limit None is absent = let witness = longer limit in (witness.0, tt, witness.1)
+told_longer limit (Some None) is absent = absurd (absent refl)
+told_longer limit (Some (Some bytes)) is absent = (bytes, refl, is bytes refl)
+
+pub read_long : (file : Option (Option (List ℕ))) → ((bytes : List ℕ) → file ≡ Some (Some bytes) → text_limit < length bytes)
+    → (file ≡ Some None → ⊥) → IsRead file (Err (record { line = 1; cause = cause.TooLong }))
+read_long file is absent = let told = told_longer text_limit file is absent in (told.0, told.1, long told.0 told.2)
+
+-- ---- the files in order
+
+-- of these files, whose names end with the rest, those before the rest were read as this
+pub record Gathers (files : Option Files) (names rest : List (List ℕ)) (so_far : Result (List ModuleParts) BadText) : Type 0 where
+  pub more : (texts : List (List ℕ)) → HaveTexts files rest texts
+      → (all : List (List ℕ)) × HaveTexts files names all × (modules_of names all ≡ both so_far (modules_of rest texts))
+  pub among : (name : List ℕ) → IsAmong rest name → IsAmong names name
+
+pub gathers-start : (files : Option Files) (names : List (List ℕ)) → Gathers files names names (Ok [])
+gathers-start files names = record {
+  more = λ texts have. (texts, have, sym (both-start (modules_of names texts)));
+  among = λ name is. is;
+}
+
+pub gathers-next : {files : Option Files} {names rest : List (List ℕ)} {so_far : Result (List ModuleParts) BadText}
+    (name : List ℕ) (read : Result ModuleParts UasmRefused) → Gathers files names (name ∷ rest) so_far → IsRead (told files name) read
+    → Gathers files names rest (both so_far (of_file name read))
+gathers-next {files} {names} {rest} {so_far} name read gathers is = record {
+  more = λ texts have.
+      let all = gathers.more (is.0 ∷ texts) (is.1, have) in (
+        all.0,
+        all.1,
+        all.2 ∙ sym (both-assoc so_far (of_file name (assembled (Some text_limit) is.0)) (modules_of rest texts))
+            ∙ ap (λ (r : Result ModuleParts UasmRefused). both (both so_far (of_file name r)) (modules_of rest texts)) (sym is.2),
+      );
+  among = λ other in_rest. gathers.among other (inr in_rest);
+}
+
+pub gathers-end : {files : Option Files} {names : List (List ℕ)} {so_far : Result (List ModuleParts) BadText}
+    → Gathers files names [] so_far → ReadTo files names so_far
+gathers-end {so_far = so_far} gathers = let all = gathers.more [] tt in (all.0, all.1, sym (all.2 ∙ both-end so_far))
+
+-- ---- a file that was not read
+
+pub rose-later : (before mid now : ℕ) → before ≤ mid → Rose mid now → Rose before now
+rose-later before mid now later rose = omega (arith, later, rose)
+
+pub not_read : (files : Option Files) (before mid now : ℕ) (names : List (List ℕ)) (answer : Answer) (name : List ℕ) → before ≤ mid → IsAmong names name
+    → Fails mid now (told files name) answer → LinkFails files before now names answer name
+not_read files before mid now names Unread name later among fails =
+    (among, ⊎_elim (λ rose. inl (rose-later before mid now later rose)) (λ none. inr none) fails)
+not_read files before mid now names NoMemory name later among fails = tt
+not_read files before mid now names Done name later among fails = absurd fails
+not_read files before mid now names Usage name later among fails = absurd fails
+not_read files before mid now names TooLong name later among fails = absurd fails
+not_read files before mid now names Fault name later among fails = absurd fails
+not_read files before mid now names (Spent kind) name later among fails = absurd fails
+not_read files before mid now names Bound name later among fails = absurd fails
+not_read files before mid now names EventFailed name later among fails = absurd fails
+not_read files before mid now names (Refused why) name later among fails = absurd fails
+not_read files before mid now names NotBuilt name later among fails = absurd fails
+
+-- ---- one step of the walk
+
+pub gathers-step : (files : Option Files) (names rest more : List (List ℕ)) (so_far next : Result (List ModuleParts) BadText) (name given : List ℕ)
+    (file : Option (Option (List ℕ))) (read : Result ModuleParts UasmRefused) → rest ≡ name ∷ more → Gathers files names rest so_far
+    → IsRead file read → file ≡ told files name → given ≡ name → next ≡ both so_far (of_file given read) → Gathers files names more next
+gathers-step files names rest more so_far next name given file read split gathers is same called gathered =
+    subst (λ (r : Result (List ModuleParts) BadText). Gathers files names more r) (sym (gathered ∙ ap (λ (n : List ℕ). both so_far (of_file n read)) called))
+    (gathers-next name read (subst (λ (ns : List (List ℕ)). Gathers files names ns so_far) split gathers) (subst (λ (f : Option (Option (List ℕ))). IsRead f read) same is))
+
+pub gathers-last : (files : Option Files) (names rest : List (List ℕ)) (so_far : Result (List ModuleParts) BadText) → rest ≡ []
+    → Gathers files names rest so_far → ReadTo files names so_far
+gathers-last files names rest so_far none gathers = gathers-end (subst (λ (ns : List (List ℕ)). Gathers files names ns so_far) none gathers)

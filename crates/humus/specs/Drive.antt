@@ -1,0 +1,206 @@
+-- Turns to an end: what they write, and what they leave.
+use Rattle.std.specs.Prelude.{codes, ◌≡◌, ℕ, suc, ◌+◌, ◌≤◌, ◌%◌, nat_le, nat_lt, Bool, true, false, ◌&&◌, List, [], ◌∷◌, ◌++◌, length, slice_get, Option, None, Some}
+use Rattle.std.specs.List.{concat, filter, flat_map}
+use Rattle.hum_outside.specs.Outside.{Rose, AppendsFront, appended}
+use Rattle.hum_run.specs.declared.run.Report.{Report}
+use Rattle.instr_table.specs.declared.charge.Quota.{Quota}
+use Rattle.instr_table.specs.declared.charge.Quota.TheVariants.{Memory, Events, Cycles}
+use Rattle.instr_table.specs.Sheet.{account, short}
+use Rattle.instr_table.specs.Lane.{Lane, lane_row}
+use Rattle.vm_turn.specs.declared.journal.Entry.{Entry}
+use Rattle.vm_turn.specs.declared.journal.Outcome.{Outcome}
+use Rattle.vm_turn.specs.declared.journal.Outcome.TheVariants.{Committed, Failed, RanOut}
+use Rattle.vm_turn.specs.declared.journal.Turn.{Turn as Answer}
+use Rattle.vm_turn.specs.declared.journal.Turn.TheVariants.{Dispatched, Stepped, Finished, Rest as FoundRest, Spent as FoundSpent}
+use Rattle.vm_turn.specs.State.{State, root}
+use Rattle.vm_turn.specs.Turn.{dispatchable, turn}
+use Rattle.vm_turn.specs.Run.{run, picks, drawn, drawn_after, pick_of}
+use Rattle.vm_machine.specs.Machine.{Machine, drawn_run}
+use Rattle.humus.specs.Failure.{failure_line}
+use Rattle.humus.specs.Report.{counts_line}
+use Rattle.humus.specs.declared.drive.Stop.{Stop}
+use Rattle.humus.specs.declared.drive.Stop.TheVariants.{Rest, Bound, Spent}
+
+-- ---- a machine's run
+
+-- its state is that of its run over the first picks of its seed
+abbrev pub IsRun : Machine → Type 0
+IsRun m = m.state ≡ drawn_run m.image m.grant m.state.lanes m.seed m.turns
+
+-- all that it wrote since its boot
+abbrev pub written_by : Machine → List ℕ
+written_by m = (run m.image m.grant m.state.lanes (picks m.seed m.turns)).output
+
+-- the pick of its next turn
+abbrev pub next_pick : Machine → ℕ
+next_pick m = pick_of (drawn (drawn_after m.seed m.turns))
+
+-- what its next turn writes
+abbrev pub next_piece : Machine → List ℕ
+next_piece m = (turn m.state (next_pick m)).0.output
+
+-- ---- the lines on err
+
+abbrev pub line_of : ℕ → Outcome → List ℕ
+line_of message Committed = []
+line_of message (Failed reason) = failure_line message reason
+line_of message (RanOut kind) = []
+
+-- an event that failed has a line, and no other
+abbrev pub entry_line : Entry → List ℕ
+entry_line e = line_of e.message e.outcome
+
+abbrev pub failed_lines : List Entry → List ℕ
+failed_lines entries = flat_map entry_line entries
+
+-- ---- turns
+
+-- the machine completed turns, which wrote these bytes and added these entries to the journal
+pub record Advances (old new : Machine) (bytes : List ℕ) (entries : List Entry) : Type 0 where
+  pub image : new.image ≡ old.image
+  pub grant : new.grant ≡ old.grant
+  pub lanes : new.state.lanes ≡ old.state.lanes
+  pub seed : new.seed ≡ old.seed
+  pub turns : old.turns ≤ new.turns
+  pub run : IsRun new
+  pub output : written_by new ≡ written_by old ++ bytes
+  pub journal : new.state.journal ≡ old.state.journal ++ entries
+
+-- out got what the turns wrote, and err the lines of the events that failed
+pub record Drives (old new : Machine) (out_old out_new err_old err_new : Option (List ℕ)) : Type 0 where
+  pub bytes : List ℕ
+  pub entries : List Entry
+  pub advances : Advances old new bytes entries
+  pub out : out_new ≡ appended out_old bytes
+  pub err : err_new ≡ appended err_old (failed_lines entries)
+
+-- out also got a front of what the next turn writes, which was not completed
+pub record BreaksOut (old new : Machine) (out_old out_new err_old err_new : Option (List ℕ)) : Type 0 where
+  pub bytes : List ℕ
+  pub entries : List Entry
+  pub advances : Advances old new bytes entries
+  pub out : AppendsFront (appended out_old bytes) out_new (next_piece new)
+  pub err : err_new ≡ appended err_old (failed_lines entries)
+
+-- err got the lines but the last one, and a front of that
+pub record BreaksErr (old new : Machine) (out_old out_new err_old err_new : Option (List ℕ)) : Type 0 where
+  pub bytes : List ℕ
+  pub entries : List Entry
+  pub last : Entry
+  pub advances : Advances old new bytes (entries ++ last ∷ [])
+  pub out : out_new ≡ appended out_old bytes
+  pub err : AppendsFront (appended err_old (failed_lines entries)) err_new (entry_line last)
+
+-- by whether the write on err failed, or that on out
+abbrev pub Breaks : Bool → (old new : Machine) (out_old out_new err_old err_new : Option (List ℕ)) → Type 0
+Breaks false = BreaksOut
+Breaks true = BreaksErr
+
+-- the count of that sink's faults rose
+abbrev pub RoseOn : Bool → (out_old out_new err_old err_new : ℕ) → Type 0
+RoseOn false out_old out_new err_old err_new = Rose out_old out_new
+RoseOn true out_old out_new err_old err_new = Rose err_old err_new
+
+-- ---- where they end
+
+-- nothing is in flight, no message can be dispatched, and the root did not run out
+pub record AtRest (s : State) : Type 0 where
+  pub no_flight : s.flight ≡ []
+  pub no_dispatch : dispatchable s ≡ None
+  pub not_out : s.out_of ≡ None
+
+-- the bound's number of events is finished, and a message is pending
+abbrev pub is_reached : Option ℕ → State → Bool
+is_reached None s = false
+is_reached (Some bound) s = nat_le bound (length s.journal) && nat_lt 0 (length s.messages)
+
+-- the pick chooses an event of the root, which holds less of that kind than the event's instruction costs
+pub record FallsShort (s : State) (pick : ℕ) (kind : Quota) : Type 0 where
+  pub lane : Lane
+  pub chosen : slice_get s.flight (pick % length s.flight) ≡ Some lane
+  pub of_root : lane.own.sponsor ≡ root
+  pub short : short (account s.sheet root) (lane_row s.store s.sheet lane).charge ≡ Some kind
+
+-- the root ran out of that kind, in the last turn
+pub record RanOutLast (m : Machine) (kind : Quota) : Type 0 where
+  pub out_of : m.state.out_of ≡ Some kind
+  pub before : ℕ
+  pub last : m.turns ≡ suc before
+  pub short : FallsShort (drawn_run m.image m.grant m.state.lanes m.seed before) (pick_of (drawn (drawn_after m.seed before))) kind
+
+-- why no further turn was taken; of these only one can be
+abbrev pub Stops : Option ℕ → Stop → Machine → Type 0
+Stops bound Rest m = AtRest m.state × (is_reached bound m.state ≡ false)
+Stops bound Bound m = (m.state.out_of ≡ None) × (is_reached bound m.state ≡ true)
+Stops bound (Spent kind) m = RanOutLast m kind
+
+-- ---- one turn
+
+-- the line that a turn with that answer adds
+abbrev pub turn_line : Answer → List ℕ
+turn_line Dispatched = []
+turn_line Stepped = []
+turn_line (Finished e) = entry_line e
+turn_line FoundRest = []
+turn_line (FoundSpent sponsor kind) = []
+
+-- why a turn with that answer was the last, if it was
+abbrev pub stop_of : Answer → Option Stop
+stop_of Dispatched = None
+stop_of Stepped = None
+stop_of (Finished e) = None
+stop_of FoundRest = Some Rest
+stop_of (FoundSpent sponsor kind) = Some (Spent kind)
+
+-- what one turn came to: it was completed and the root did not run out, or it was the last
+abbrev pub Goes : Option Stop → (old new : Machine) → Type 0
+Goes None old new = (new.turns ≡ old.turns + 1) × (new.state.out_of ≡ None)
+Goes (Some Rest) old new = AtRest new.state × (new.state ≡ old.state)
+Goes (Some Bound) old new = ⊥
+Goes (Some (Spent kind)) old new = RanOutLast new kind
+
+-- ---- the end on err
+
+abbrev pub is_committed : Outcome → Bool
+is_committed Committed = true
+is_committed (Failed reason) = false
+is_committed (RanOut kind) = false
+
+abbrev pub is_failed : Outcome → Bool
+is_failed Committed = false
+is_failed (Failed reason) = true
+is_failed (RanOut kind) = false
+
+abbrev pub is_ran_out : Outcome → Bool
+is_ran_out Committed = false
+is_ran_out (Failed reason) = false
+is_ran_out (RanOut kind) = true
+
+-- how many of these entries ended so
+abbrev pub count_of : (Outcome → Bool) → List Entry → ℕ
+count_of ended entries = length (filter (λ (e : Entry). ended e.outcome) entries)
+
+-- what the journal counts, and how many messages are pending
+abbrev pub report_of_machine : State → Report
+report_of_machine s = record {
+  finished = length s.journal;
+  committed = count_of is_committed s.journal;
+  failed = count_of is_failed s.journal;
+  spent = count_of is_ran_out s.journal;
+  pending = length s.messages;
+}
+
+abbrev pub kind_name : Quota → List ℕ
+kind_name Memory = codes "memory"
+kind_name Events = codes "events"
+kind_name Cycles = codes "cycles"
+
+-- the line of what the root ran out of, if it did
+abbrev pub spent_line : Stop → List ℕ
+spent_line Rest = []
+spent_line Bound = []
+spent_line (Spent kind) = concat (codes "spent " ∷ kind_name kind ∷ codes "\n" ∷ [])
+
+-- the lines that end a run
+abbrev pub ending : Stop → State → List ℕ
+ending stop s = spent_line stop ++ counts_line (report_of_machine s)

@@ -1,0 +1,170 @@
+// The keys of a run.
+ghost use Rattle.std.specs.Prelude.{◌≡◌, map, true, IfSome, string_bytes};
+ghost use Rattle.humus.specs.Keys as spec;
+
+/// What a word `KEY=N` gives a number to.
+#[derive(Clone, Copy, Debug, PartialEq, Eq)]
+pub enum Key {
+    Memory,
+    Events,
+    Cycles,
+    Lanes,
+    Seed,
+    Bound,
+}
+
+/// What the root sponsor is granted, in quads, events and cycles; how many events may be in flight; the seed of the picks; and after how
+/// many events the run stops, if it does.
+#[derive(Clone, Copy, Debug, PartialEq, Eq)]
+pub struct Keys {
+    pub memory: u32,
+    pub events: u32,
+    pub cycles: u32,
+    pub lanes: u32,
+    pub seed: u32,
+    pub bound: Option<u32>,
+}
+
+impl Key {
+    fn front(self) -> &'static [u8]
+        ensures { result.now ≡ spec.front_of self }
+    {
+        match self {
+            Key::Memory => b"memory=",
+            Key::Events => b"events=",
+            Key::Cycles => b"cycles=",
+            Key::Lanes => b"lanes=",
+            Key::Seed => b"seed=",
+            Key::Bound => b"bound=",
+        }
+    }
+
+    fn takes(self, number: u32) -> bool
+        ensures { result ≡ spec.takes self number }
+    {
+        match self {
+            Key::Memory => number <= 16_777_216,
+            Key::Events => number <= 4_194_304,
+            Key::Cycles => number <= 1_073_741_823,
+            Key::Lanes => number >= 1 && number <= 64,
+            Key::Seed | Key::Bound => true,
+        }
+    }
+}
+
+fn number_from(digits: &[u8]) -> Option<u32>
+    ensures { result ≡ spec.number_from 0 digits.now }
+{
+    let mut number: u32 = 0;
+    for digit in digits {
+        if !digit.is_ascii_digit() {
+            return None;
+        }
+        let next = 10 * number as u64 + (*digit - b'0') as u64;
+        if next > 4_294_967_295 {
+            return None;
+        }
+        number = next as u32;
+    }
+    Some(number)
+}
+
+fn number_of(digits: &[u8]) -> Option<u32>
+    ensures { result ≡ spec.number_of digits.now }
+{
+    if digits.len() >= 1 && digits.len() <= 10 {
+        number_from(digits)
+    } else {
+        None
+    }
+}
+
+// The number that a word gives a key.
+fn number_for(key: Key, word: &[u8]) -> Option<u32>
+    ensures value { result ≡ spec.number_for key word.now }
+    ensures takes { IfSome result (λ n. spec.takes key n ≡ true) }
+{
+    let front = key.front();
+    if !word.starts_with(front) {
+        return None;
+    }
+    let number = number_of(&word[front.len()..])?;
+    if key.takes(number) {
+        Some(number)
+    } else {
+        None
+    }
+}
+
+// The number that the first of the words gives a key that gives it one.
+fn number_in(key: Key, words: &[String]) -> Option<u32>
+    ensures value { result ≡ spec.number_in key (map string_bytes words.now) }
+    ensures takes { IfSome result (λ n. spec.takes key n ≡ true) }
+{
+    match words {
+        [] => None,
+        [word, more @ ..] => match number_for(key, word.as_bytes()) {
+            Some(number) => Some(number),
+            None => number_in(key, more),
+        },
+    }
+}
+
+// Whether a word gives a number to a key that these words give none.
+fn is_new(word: &[u8], words: &[String], key: Key) -> bool
+    ensures { result ≡ spec.is_new word.now (map string_bytes words.now) key }
+{
+    number_for(key, word).is_some() && number_in(key, words).is_none()
+}
+
+// Whether each word gives a key its number, and no key gets two.
+fn are_keys(words: &[String]) -> bool
+    ensures { result ≡ spec.are_keys (map string_bytes words.now) }
+{
+    match words {
+        [] => true,
+        [word, more @ ..] => gives_one(word.as_bytes(), more) && are_keys(more),
+    }
+}
+
+fn gives_one(word: &[u8], words: &[String]) -> bool
+    ensures { result ≡ spec.gives_one word.now (map string_bytes words.now) }
+{
+    is_new(word, words, Key::Memory)
+        || is_new(word, words, Key::Events)
+        || is_new(word, words, Key::Cycles)
+        || is_new(word, words, Key::Lanes)
+        || is_new(word, words, Key::Seed)
+        || is_new(word, words, Key::Bound)
+}
+
+// The number that the words give a key, or else its default.
+fn number_or(key: Key, words: &[String], default: u32) -> u32
+    requires { spec.takes key default ≡ true }
+    ensures value { result ≡ spec.number_or key (map string_bytes words.now) default }
+    ensures takes { spec.takes key result ≡ true }
+{
+    match number_in(key, words) {
+        Some(number) => number,
+        None => default,
+    }
+}
+
+/// The keys that the words give, each at most once and in any order, and the defaults of the others; None where a word gives none, or a
+/// key gets two numbers.
+pub fn keys_of(words: &[String]) -> Option<Keys>
+    ensures value { result ≡ spec.keys_of (map string_bytes words.now) }
+    ensures limits { IfSome result spec.WithinLimits }
+{
+    if !are_keys(words) {
+        return None;
+    }
+    Some(Keys {
+        memory: number_or(Key::Memory, words, 1_048_576),
+        events: number_or(Key::Events, words, 65_536),
+        cycles: number_or(Key::Cycles, words, 16_777_216),
+        lanes: number_or(Key::Lanes, words, 1),
+        seed: number_or(Key::Seed, words, 0),
+        bound: number_in(Key::Bound, words),
+    })
+}
