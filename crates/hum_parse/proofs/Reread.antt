@@ -20,10 +20,13 @@ text_tokens bytes slice xs t same light =
     let short = subst (λ n. n ≤ weight_limit) (sym (weight-kinds t.tokens ∙ ap weight_of_kinds t.kinds)) light in
     subst (λ bs. IsTokens bs t.tokens) (sym same) (record { lexes = t.lexes; light = short })
 
+pub text_kinds : (bytes : Bytes) (xs : List Stmt) (t : IsTextOf bytes xs) (ts : List Token) → all_placed ts ≡ t.tokens → kinds ts ≡ printed xs
+text_kinds bytes xs t ts same = sym (kinds_of-placed ts) ∙ ap kinds_of same ∙ t.kinds
+
 pub text_spells : (bytes : Bytes) (tree : Tree) (t : IsTextOf bytes tree.statements) → levels tree.statements ≤ deepest
     → (ts : List Token) → all_placed ts ≡ t.tokens → Spells (kinds ts) tree
 text_spells bytes tree t shallow ts same =
-    subst (λ ks. IsStmts deepest ks tree.statements) (sym (sym (kinds_of-placed ts) ∙ ap kinds_of same ∙ t.kinds)) (t.spell deepest shallow)
+    subst (λ ks. IsStmts deepest ks tree.statements) (sym (text_kinds bytes tree.statements t ts same)) (t.spell deepest shallow)
 
 -- so the tree that they spell is the one that was printed
 pub reread : (bytes : Bytes) (tree again : Tree) (t : IsTextOf bytes tree.statements) (ts : List Token) → Lexes bytes (all_placed ts)
@@ -31,7 +34,7 @@ pub reread : (bytes : Bytes) (tree again : Tree) (t : IsTextOf bytes tree.statem
 reread bytes tree again t ts lexes spells =
     let xs = tree.statements in
     let same : all_placed ts ≡ t.tokens = one_list bytes (all_placed ts) t.tokens lexes t.lexes in
-    let is : kinds ts ≡ printed xs = sym (kinds_of-placed ts) ∙ ap kinds_of same ∙ t.kinds in
+    let is : kinds ts ≡ printed xs = text_kinds bytes xs t ts same in
     let told : IsStmts (levels xs) (kinds ts) xs = subst (λ ks. IsStmts (levels xs) ks xs) (sym is) (t.spell (levels xs) (omega arith)) in
     same_tree again tree (one_at_each_level deepest (levels xs) (kinds ts) again.statements xs spells told)
 

@@ -1,8 +1,9 @@
 //! What is printed is read again.
 
 ghost use Rattle.std.specs.Prelude.{◌≡◌, ◌≤◌, ◌⊎◌, Some, None, IfOk};
+ghost use Rattle.hum_syntax.specs.declared.Tree.{Tree as AnyTree};
 ghost use Rattle.hum_syntax.specs.Prints.{printed, levels};
-ghost use Rattle.hum_syntax.specs.Spells.{deepest};
+ghost use Rattle.hum_syntax.specs.Spells.{Spells, deepest};
 ghost use Rattle.hum_syntax.specs.Tokens.{weight_of_kinds, weight_limit};
 
 use crate::whole::{ParseError, parse};
@@ -15,6 +16,8 @@ const TEXT_LIMIT: usize = u32::MAX as usize;
 
 /// What the text of a tree spells: the same tree or, where that is too heavy or too deep for a program, none.
 pub fn read_back(alloc: Global, tree: &Tree) -> Result<Option<Tree>, AllocError>
+    ensures within { (spelled : AnyTree) → weight_of_kinds (printed tree.now.statements) ≤ weight_limit → Spells (printed tree.now.statements) spelled →
+        IfOk result (λ again. again ≡ Some tree.now) }
     ensures same { weight_of_kinds (printed tree.now.statements) ≤ weight_limit → levels tree.now.statements ≤ deepest →
         IfOk result (λ again. again ≡ Some tree.now) }
     ensures no_other { IfOk result (λ again. (again ≡ None) ⊎ (again ≡ Some tree.now)) }
