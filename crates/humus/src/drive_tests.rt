@@ -1,3 +1,5 @@
+ghost use Rattle.std.specs.Prelude.{◌≡◌, None, IfOk};
+
 use crate::drive::{Stop, WriteFault, drive, put_ending};
 use crate::failure::put_failure;
 use cap_words::Word;
@@ -29,7 +31,9 @@ fn sends(rt: &impl Abort, alloc: Global) -> Result<Image, NoMemory> {
     Ok(Image::new(rom(rt, 16), cells).expect(rt, "an image"))
 }
 
-fn machine(rt: &impl Abort, alloc: Global, cycles: u32) -> Result<Machine, NoMemory> {
+fn machine(rt: &impl Abort, alloc: Global, cycles: u32) -> Result<Machine, NoMemory>
+    ensures { IfOk result (λ m. m.state.out_of ≡ None) }
+{
     let image = sends(rt, alloc)?;
     let grant = Grant::new(100, 10, cycles).expect(rt, "a grant");
     Machine::boot(alloc, &image, grant, Lanes { count: 1, seed: 0 })
