@@ -1,0 +1,16 @@
+pub mod Value
+pub mod Action
+pub mod Same
+pub mod BuiltIns
+pub mod Language
+pub mod Eval
+pub mod Exec
+pub mod Meaning
+pub mod Named
+pub mod Body
+pub mod Look
+pub mod Match
+pub mod Written
+pub mod Piece
+pub mod Deliver
+pub mod After
