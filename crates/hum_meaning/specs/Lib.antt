@@ -14,3 +14,4 @@ pub mod Written
 pub mod Piece
 pub mod Deliver
 pub mod After
+pub mod Laws
