@@ -15,3 +15,4 @@ pub mod Piece
 pub mod Deliver
 pub mod After
 pub mod Laws
+pub mod Scope

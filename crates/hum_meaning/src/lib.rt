@@ -13,8 +13,10 @@
 //! Programs that are worked out by computation stand in `proofs/Examples.antt`.
 #![tactic(auto)]
 
+mod cause;
 mod laws;
 
+pub use cause::ScopeCause;
 pub use laws::{
     deliveries_stay, depth_is_enough, evaluation_stays, execution_stays, journals_decide,
     matching_stays,
