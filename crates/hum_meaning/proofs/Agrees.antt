@@ -1,5 +1,5 @@
 -- One course of action stands for another that has no fewer steps left, as long as it has fewer than d left itself.
-use Rattle.std.proofs.Common.{◌≡◌, refl, ap, ◌∙◌, ℕ, zero, suc, pred, ◌+◌, ◌<◌, ◌≤◌, List, [], ◌∷◌, Option, Some, None, arith}
+use Rattle.std.proofs.Common.{◌≡◌, refl, ap, ◌∙◌, ℕ, zero, suc, pred, ◌+◌, ◌<◌, ◌≤◌, Option, Some, None, arith}
 use Rattle.hum_meaning.specs.Value.{Parts, Value}
 use Rattle.hum_meaning.specs.Action.{Effects, Outcome, Gives, Fails, Undecided, Action, and_then, ◌>>=◌, ◌>>◌, pure, fail, spend, step, undecided, create, send, becoming, become}
 

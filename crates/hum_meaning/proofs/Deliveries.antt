@@ -1,13 +1,12 @@
 -- A delivery that some steps decide is decided so by all larger numbers of steps, so a journal leads to one configuration.
-use Rattle.std.proofs.Common.{◌≡◌, refl, ap, sym, subst, ◌∙◌, ℕ, zero, suc, ◌+◌, ◌≤◌, List, [], ◌∷◌, length, Option, Some, None, arith, slice_get}
+use Rattle.std.proofs.Common.{◌≡◌, refl, ap, sym, subst, ◌∙◌, ℕ, suc, ◌+◌, ◌≤◌, List, [], ◌∷◌, length, Option, Some, None, arith, slice_get}
 use Rattle.hum_meaning.specs.Value.{Parts, Value, Behaviour, Device, Answers}
-use Rattle.hum_meaning.specs.Action.{Effects, no_effects, Outcome, Gives, Fails, Undecided}
+use Rattle.hum_meaning.specs.Action.{no_effects, Outcome, Gives, Fails, Undecided}
 use Rattle.hum_meaning.specs.Language.{Language}
-use Rattle.hum_meaning.specs.Meaning.{level}
-use Rattle.hum_meaning.specs.Deliver.{Configuration, Message, Delivery, Committed, Failed, Open, commit, drop, responded, respond, delivered, deliver}
+use Rattle.hum_meaning.specs.Deliver.{Configuration, Message, Delivery, Committed, Failed, Open, responded, respond, delivered, deliver}
 use Rattle.hum_meaning.specs.After.{Ending, Commits, FailsWith, RunsOut, Entry, Leads, Enters, Follows}
 use Rattle.hum_meaning.specs.Laws.{IsDecided, more_left, IsClosed}
-use Rattle.hum_meaning.proofs.Agrees.{Holds, Agrees, bind_agrees}
+use Rattle.hum_meaning.proofs.Agrees.{Agrees, bind_agrees}
 use Rattle.hum_meaning.proofs.Law.{Lawful, level_stands, apply_agrees, perform_agrees, stays}
 
 module _ {L : Parts} where

@@ -1,17 +1,16 @@
 -- What is decided within some steps is decided so within more.
 use Rattle.std.proofs.Common.{◌≡◌, refl, ap, sym, subst, ◌∙◌, ℕ, zero, suc, pred, ◌+◌, ◌<◌, ◌≤◌, Bool, true, false, List, [], ◌∷◌, Option, Some, None, arith}
-use Rattle.std.specs.Prelude.{ℤ, ◌+ℤ◌, ◌-ℤ◌, ◌*ℤ◌, int_lt, not, ◌&&◌, ◌||◌}
-use Rattle.cap_words.specs.Fixnums.{wrap, comparison}
-use Rattle.hum_meaning.specs.Value.{Parts, Atom, Undefined, Nil, Truth, Number, Symbol, Actor, BuiltIn, Add, Sub, Mul, Compare, Less, LessEqual, Greater, GreaterEqual, Equal, And, Or, Not, Value, Plain, Pair, Function, Block, Primitive, Env, Bind, Group, Entry, extend}
-use Rattle.hum_meaning.specs.Action.{Effects, Outcome, Gives, Fails, Undecided, Action, ◌>>=◌, ◌>>◌, pure, fail, no_match, not_a_function, not_an_actor, not_a_number, not_a_truth_value, thrown, step, undecided, create, send, become}
+use Rattle.std.specs.Prelude.{ℤ}
+use Rattle.hum_meaning.specs.Value.{Parts, Nil, Truth, Number, Actor, BuiltIn, Add, Sub, Mul, Compare, Less, LessEqual, Greater, GreaterEqual, Equal, And, Or, Not, Value, Plain, Pair, Function, Block, Primitive, Env, Bind, Group, Entry, extend}
+use Rattle.hum_meaning.specs.Action.{Effects, Outcome, Gives, Fails, Undecided, Action, no_match, not_a_function, not_an_actor, not_a_number, not_a_truth_value, thrown}
 use Rattle.hum_meaning.specs.Same.{same, same_atom}
-use Rattle.hum_meaning.specs.BuiltIns.{built_in, on_pair, on_numbers, on_truths, arithmetic, order, negation, equality}
+use Rattle.hum_meaning.specs.BuiltIns.{built_in, on_pair, on_numbers, on_truths, negation, equality}
 use Rattle.hum_meaning.specs.Language.{ExprNode, Is, Var, Myself, Abs, BlockOf, Call, Tuple, New, Case, If, StmtNode, Let, Functions, Defined, Send, Create, Become, Throw, Do, Matched, Meaning, Language}
 use Rattle.hum_meaning.specs.Eval.{if_matched, if_pair, keep_if, equals, if_true, found, enter, tuple, arms, branches, apply, eval_node}
 use Rattle.hum_meaning.specs.Exec.{send_to, perform, statement, statements}
 use Rattle.hum_meaning.specs.Meaning.{nothing, stage, level, evaluate, match, execute}
 use Rattle.hum_meaning.specs.Laws.{IsDecided, more_left, Stays}
-use Rattle.hum_meaning.proofs.Agrees.{Holds, Agrees, any_at_zero, undecided_agrees, pure_agrees, fail_agrees, bind_agrees, step_agrees, step_keeps, fewer, create_agrees, send_agrees, become_agrees}
+use Rattle.hum_meaning.proofs.Agrees.{Holds, Agrees, any_at_zero, undecided_agrees, pure_agrees, fail_agrees, bind_agrees, step_agrees, step_keeps, create_agrees, send_agrees, become_agrees}
 
 -- ---- comparison and the built-in functions
 
@@ -97,7 +96,7 @@ pub record Stands {L : Parts} (d : ℕ) (m m' : Meaning L) : Type 0 where
 -- what is asked of a language's matching: a step is spent before it goes below
 pub record Lawful {L : Parts} (language : Language L) : Type 0 where
   pub matching : (d : ℕ) (m m' : Meaning L) → Stands (pred d) m m' → (p : L.Pattern) (v : Value L) (env : Env L) (es : List (Entry L))
-    → Agrees d (language.match_node m.eval m.matches p v env es) (language.match_node m'.eval m'.matches p v env es)
+      → Agrees d (language.match_node m.eval m.matches p v env es) (language.match_node m'.eval m'.matches p v env es)
 
 module _ {L : Parts} (d : ℕ) (m m' : Meaning L) (h : Stands d m m') where
   enter_agrees : (f : Option (L.Pattern × L.Expr)) (env : Env L) (v : Value L) → Agrees d (enter m f env v) (enter m' f env v)
@@ -163,18 +162,20 @@ module _ {L : Parts} (language : Language L) (lawful : Lawful language) (self ba
 
   stage_stands : (d : ℕ) (m m' : Meaning L) → Stands (pred d) m m' → Stands d (stage language self base m) (stage language self base m')
   stage_stands d m m' h = record {
-    eval = λ e env. step_agrees d (eval_node_agrees language self base (pred d) m m' h (language.expr e) env)
-    ; matches = lawful.matching d m m' h
-    ; exec = λ b env. body_agrees d m m' h (language.body b) env }
+    eval = λ e env. step_agrees d (eval_node_agrees language self base (pred d) m m' h (language.expr e) env);
+    matches = lawful.matching d m m' h;
+    exec = λ b env. body_agrees d m m' h (language.body b) env;
+  }
 
   nothing_stands : (d : ℕ) (m : Meaning L) → Stands d nothing m
   nothing_stands d m = record { eval = λ e env. undecided_agrees d _; matches = λ p v env es. undecided_agrees d _; exec = λ b env. undecided_agrees d _ }
 
   stands_at_zero : (m m' m'' : Meaning L) → Stands 0 m m' → Stands 0 m m''
   stands_at_zero m m' m'' h = record {
-    eval = λ e env. any_at_zero _ _ _ (h.eval e env)
-    ; matches = λ p v env es. any_at_zero _ _ _ (h.matches p v env es)
-    ; exec = λ b env. any_at_zero _ _ _ (h.exec b env) }
+    eval = λ e env. any_at_zero _ _ _ (h.eval e env);
+    matches = λ p v env es. any_at_zero _ _ _ (h.matches p v env es);
+    exec = λ b env. any_at_zero _ _ _ (h.exec b env);
+  }
 
   -- What is decided at some depth with fewer than d steps is decided so at each depth from d on.
   pub level_stands : (n m d : ℕ) → d ≤ m → Stands d (level language self base n) (level language self base m)
@@ -219,7 +220,7 @@ module _ {L : Parts} (language : Language L) (lawful : Lawful language) (self ba
   between n m s a b e env effects =
       let same : s + 0 ≡ s = omega arith in
       subst (λ x. Holds s 0 (suc s) ((level language self base n).eval e env effects s) ((level language self base m).eval e env effects x)) same
-        (((level_stands language lawful self base n m (suc s) b).eval e env).at effects s 0)
+      (((level_stands language lawful self base n m (suc s) b).eval e env).at effects s 0)
 
   -- the depth is no bound of its own
   pub depth-is-enough : (n s : ℕ) (e : L.Expr) (env : Env L) (effects : Effects L) → s < n → (level language self base n).eval e env effects s ≡ evaluate language self base e env effects s

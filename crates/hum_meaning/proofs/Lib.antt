@@ -3,4 +3,6 @@ pub mod Law
 pub mod NamedLaw
 pub mod Deliveries
 pub mod Plain
+mod Runs
 mod Examples
+mod ScopeExamples

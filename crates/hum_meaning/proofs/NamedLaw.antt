@@ -1,10 +1,10 @@
 -- The language as it is written spends a step before its matching goes below.
-use Rattle.std.proofs.Common.{ℕ, pred, ◌≤◌, List, [], ◌∷◌, Option, Some, None, arith}
+use Rattle.std.proofs.Common.{ℕ, pred, List, [], ◌∷◌, Some, None, arith}
 use Rattle.hum_syntax.specs.declared.tree.Expr.TheOpen as layer
 use Rattle.hum_meaning.specs.Value.{Atom, Undefined, Nil, Truth, Number, Symbol, Value, Plain, Env, Entry}
 use Rattle.hum_meaning.specs.Language.{Meaning}
 use Rattle.hum_meaning.specs.Named.{Trees, Named, PatTree}
-use Rattle.hum_meaning.specs.Match.{Rest, match_pair, match_items, match_value, match_atom, match_tree}
+use Rattle.hum_meaning.specs.Match.{Rest, match_pair, match_items, match_atom, match_tree}
 use Rattle.hum_meaning.specs.Written.{named_language}
 use Rattle.hum_meaning.proofs.Agrees.{Agrees, pure_agrees, bind_agrees, step_agrees, fewer}
 use Rattle.hum_meaning.proofs.Law.{if_matched_agrees, if_pair_agrees, equals_agrees, Stands, Lawful}
@@ -17,7 +17,7 @@ module _ (t : Trees) (d : ℕ) (m m' : Meaning (Named t)) (h : Stands (pred d) m
   pair_agrees : (p : t.Pat) (r r' : Rest t) → RestsAgree t (pred d) r r' → RestsAgree t d (match_pair t m.eval m.matches p r) (match_pair t m'.eval m'.matches p r')
   pair_agrees p r r' k v env es =
       step_agrees d (if_pair_agrees (pred d) v _ _ (λ head tail. bind_agrees (pred d) (h.matches p head env es)
-        (λ o. if_matched_agrees (pred d) o _ _ _ _ (λ es. k tail env es) (pure_agrees (pred d) None))))
+      (λ o. if_matched_agrees (pred d) o _ _ _ _ (λ es. k tail env es) (pure_agrees (pred d) None))))
 
   items_agree : (p q : t.Pat) (more : List t.Pat) → RestsAgree t d (match_items t m.eval m.matches p q more) (match_items t m'.eval m'.matches p q more)
   items_agree p q [] = pair_agrees p _ _ (h.matches q)

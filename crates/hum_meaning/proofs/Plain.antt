@@ -1,5 +1,5 @@
 -- Trees of plain data, on which the worked programs run by computation, and a way to write them.
-use Rattle.std.proofs.Common.{ℕ, ℤ, pos, negsuc, Bool, true, false, List, [], ◌∷◌, Option, Some, None}
+use Rattle.std.proofs.Common.{ℕ, ℤ, pos, Bool, true, false, List, [], ◌∷◌, Some, None}
 use Rattle.std.specs.Prelude.{codes}
 use Prim.Native.String.{String}
 use Rattle.hum_syntax.specs.declared.tree.Expr.TheOpen.{Expr-F, Pat-F, Stmt-F}
@@ -149,8 +149,17 @@ open_branch (branch_of e ss) = (e, list_stmts ss)
 
 abbrev pub plain : Trees
 plain = record {
-  Expr = Expr; Pat = Pat; Stmt = Stmt; Arm = Arm; Branch = Branch
-  ; expr = open_expr; pat = open_pat; stmt = open_stmt; arm = open_arm; branch = open_branch }
+  Expr = Expr;
+  Pat = Pat;
+  Stmt = Stmt;
+  Arm = Arm;
+  Branch = Branch;
+  expr = open_expr;
+  pat = open_pat;
+  stmt = open_stmt;
+  arm = open_arm;
+  branch = open_branch;
+}
 
 -- ---- a way to write programs
 

@@ -1,6 +1,5 @@
 -- The configuration that a program begins with, and the one after a journal.
 use Rattle.std.specs.Prelude.{◌≡◌, ℕ, nat_eq, if◌then◌else◌, List, [], ◌∷◌, Option, Some, None}
-use Rattle.hum_syntax.specs.declared.tree.Expr.{Expr}
 use Rattle.hum_syntax.specs.declared.tree.Expr.TheVariants as expr
 use Rattle.hum_syntax.specs.declared.tree.Pat.TheVariants as pat
 use Rattle.hum_syntax.specs.declared.tree.Stmt.{Stmt}
@@ -16,10 +15,11 @@ use Rattle.hum_meaning.specs.Deliver.{Message, Configuration, Committed, Failed,
 -- actor 0 has this function in the outermost environment, and message 0 is NIL to it; the devices are actors 1 and 2
 abbrev pub opening_of : (t : Trees) → Lambda t → Configuration (Named t)
 opening_of t file = record {
-  behaviours = Answers (Function file (outermost t)) ∷ Device 0 ∷ Device 1 ∷ []
-  ; pending = record { number = 0; target = 0; value = Plain Nil } ∷ []
-  ; next_number = 1
-  ; output = [] }
+  behaviours = Answers (Function file (outermost t)) ∷ Device 0 ∷ Device 1 ∷ [];
+  pending = record { number = 0; target = 0; value = Plain Nil } ∷ [];
+  next_number = 1;
+  output = [];
+}
 
 -- for the statements of a file: the function is `\_.[ file ]`
 abbrev pub opening : List Stmt → Configuration (Named written)

@@ -1,5 +1,5 @@
 -- The statements of a block, with the functions that are defined together.
-use Rattle.std.specs.Prelude.{Bool, true, false, List, [], ◌∷◌, Option, Some, None}
+use Rattle.std.specs.Prelude.{Bool, true, false, List, [], ◌∷◌}
 use Rattle.hum_syntax.specs.declared.tree.Expr.TheOpen as layer
 use Rattle.hum_meaning.specs.Language.{StmtNode, Let, Functions, Defined, Send, Create, Become, Throw, Do}
 use Rattle.hum_meaning.specs.Named.{Name, Trees, Lambda, Named, ExprTree, PatTree, StmtTree}

@@ -2,7 +2,7 @@
 use Rattle.std.specs.Prelude.{ℤ, ◌+ℤ◌, ◌-ℤ◌, ◌*ℤ◌, int_lt, Bool, not, ◌&&◌, ◌||◌}
 use Rattle.cap_words.specs.Fixnums.{wrap, comparison}
 use Rattle.hum_meaning.specs.Value.{Parts, Truth, Number, BuiltIn, Add, Sub, Mul, Compare, Less, LessEqual, Greater, GreaterEqual, Equal, And, Or, Not, Value, Plain, Pair}
-use Rattle.hum_meaning.specs.Action.{Action, ◌>>=◌, ◌>>◌, pure, fail, no_match, not_a_number, not_a_truth_value}
+use Rattle.hum_meaning.specs.Action.{Action, ◌>>=◌, pure, fail, no_match, not_a_number, not_a_truth_value}
 use Rattle.hum_meaning.specs.Same.{same}
 
 module _ {L : Parts} where

@@ -53,9 +53,10 @@ module _ {L : Parts} where
   -- all at once: the next behaviour, if any, the created actors, and the messages, which take the next numbers
   abbrev pub commit : Configuration L → Message L → Effects L → Configuration L
   commit c m effects = record c {
-    behaviours = replaced c.behaviours m.target effects.next ++ map Answers effects.created
-    ; pending = without m.number c.pending ++ numbered_from c.next_number effects.sent
-    ; next_number = c.next_number + length effects.sent }
+    behaviours = replaced c.behaviours m.target effects.next ++ map Answers effects.created;
+    pending = without m.number c.pending ++ numbered_from c.next_number effects.sent;
+    next_number = c.next_number + length effects.sent;
+  }
 
   -- ---- deliveries
 

@@ -1,7 +1,7 @@
 -- Evaluation of one node, over the meaning of what is below it.
 use Rattle.std.specs.Prelude.{ℕ, Bool, true, false, List, [], ◌∷◌, Option, Some, None}
 use Rattle.hum_meaning.specs.Value.{Parts, Nil, Truth, Actor, Value, Plain, Pair, Function, Block, Primitive, Env, Entry, extend}
-use Rattle.hum_meaning.specs.Action.{Action, ◌>>=◌, ◌>>◌, pure, fail, no_match, not_a_function, not_a_truth_value, step, create}
+use Rattle.hum_meaning.specs.Action.{Action, ◌>>=◌, pure, fail, no_match, not_a_function, not_a_truth_value, create}
 use Rattle.hum_meaning.specs.Same.{same}
 use Rattle.hum_meaning.specs.BuiltIns.{built_in}
 use Rattle.hum_meaning.specs.Language.{ExprNode, Is, Var, Myself, Abs, BlockOf, Call, Tuple, New, Case, If, Matched, Meaning, Language}

@@ -1,5 +1,5 @@
 -- How a language is read, one node at a time, and what its meaning consists of.
-use Rattle.std.specs.Prelude.{ℕ, List, Option}
+use Rattle.std.specs.Prelude.{List, Option}
 use Rattle.hum_meaning.specs.Value.{Parts, Value, Env, Entry}
 use Rattle.hum_meaning.specs.Action.{Action}
 

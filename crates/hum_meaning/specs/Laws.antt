@@ -1,5 +1,5 @@
 -- What is so of every program: what some steps decide does not depend on how many there are.
-use Rattle.std.specs.Prelude.{◌≡◌, ℕ, ◌+◌, ◌<◌, List, []}
+use Rattle.std.specs.Prelude.{◌≡◌, ℕ, ◌+◌, ◌<◌, List}
 use Rattle.hum_syntax.specs.declared.tree.Expr.{Expr}
 use Rattle.hum_syntax.specs.declared.tree.Pat.{Pat}
 use Rattle.hum_syntax.specs.declared.tree.Stmt.{Stmt}

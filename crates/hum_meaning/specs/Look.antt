@@ -1,8 +1,23 @@
 -- What a name finds in an environment, and the environment outside all programs.
-use Rattle.std.specs.Prelude.{List, [], ◌∷◌, ◌++◌, if◌then◌else◌, Option, Some, None, codes}
+use Rattle.std.specs.Prelude.{List, [], ◌∷◌, ◌++◌, map, if◌then◌else◌, Option, Some, None, codes}
 use Rattle.std.specs.Str.{bytes_eq}
-use Rattle.hum_meaning.specs.Value.{BuiltIn, Add, Sub, Mul, Compare, Less, LessEqual, Greater, GreaterEqual, Equal, And, Or, Not, Actor, Value, Plain, Function, Primitive, Env, Outside, Bind, Group}
+use Rattle.hum_meaning.specs.Value.{BuiltIn, built_ins, Add, Sub, Mul, Compare, Less, LessEqual, Greater, GreaterEqual, Equal, And, Or, Not, Actor, Value, Plain, Function, Primitive, Env, Outside, Bind, Group}
 use Rattle.hum_meaning.specs.Named.{Name, Trees, Lambda, Named}
+
+-- how a built-in function is written
+abbrev pub built_in_name : BuiltIn → Name
+built_in_name Add = codes "add"
+built_in_name Sub = codes "sub"
+built_in_name Mul = codes "mul"
+built_in_name Compare = codes "compare"
+built_in_name Less = codes "less"
+built_in_name LessEqual = codes "less_equal"
+built_in_name Greater = codes "greater"
+built_in_name GreaterEqual = codes "greater_equal"
+built_in_name Equal = codes "equal"
+built_in_name And = codes "and"
+built_in_name Or = codes "or"
+built_in_name Not = codes "not"
 
 module _ (t : Trees) where
   -- the function of that name in a group
@@ -25,12 +40,7 @@ module _ (t : Trees) where
 
   -- the built-in functions by number, then the devices
   abbrev pub outermost_names : List (Name × Value (Named t))
-  outermost_names =
-      (codes "add", Primitive Add) ∷ (codes "sub", Primitive Sub) ∷ (codes "mul", Primitive Mul) ∷ (codes "compare", Primitive Compare)
-      ∷ (codes "less", Primitive Less) ∷ (codes "less_equal", Primitive LessEqual)
-      ∷ (codes "greater", Primitive Greater) ∷ (codes "greater_equal", Primitive GreaterEqual)
-      ∷ (codes "equal", Primitive Equal) ∷ (codes "and", Primitive And) ∷ (codes "or", Primitive Or) ∷ (codes "not", Primitive Not)
-      ∷ (codes "println", Plain (Actor 1)) ∷ (codes "say", Plain (Actor 2)) ∷ []
+  outermost_names = map (λ b. (built_in_name b, Primitive b)) built_ins ++ (codes "println", Plain (Actor 1)) ∷ (codes "say", Plain (Actor 2)) ∷ []
 
   -- binds one after the other, so that the last is the newest
   abbrev pub bind_all : List (Name × Value (Named t)) → Env (Named t) → Env (Named t)

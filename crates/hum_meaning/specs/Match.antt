@@ -1,5 +1,5 @@
 -- Matching of one node of a pattern, over evaluation and matching of what is below it.
-use Rattle.std.specs.Prelude.{ℕ, Bool, true, false, List, [], ◌∷◌, Option, Some, None}
+use Rattle.std.specs.Prelude.{true, false, List, [], ◌∷◌, Some, None}
 use Rattle.hum_syntax.specs.declared.tree.Expr.TheOpen as layer
 use Rattle.hum_meaning.specs.Value.{Undefined, Nil, Truth, Number, Symbol, Atom, Value, Plain, Env, Entry}
 use Rattle.hum_meaning.specs.Action.{Action, ◌>>=◌, ◌>>◌, pure, step}

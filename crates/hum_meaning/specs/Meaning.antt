@@ -1,7 +1,7 @@
 -- Evaluation, matching and execution within a number of steps.
 use Rattle.std.specs.Prelude.{ℕ, zero, suc, []}
 use Rattle.hum_meaning.specs.Value.{Parts, Value, Env}
-use Rattle.hum_meaning.specs.Action.{Effects, Outcome, ◌>>=◌, ◌>>◌, step, undecided}
+use Rattle.hum_meaning.specs.Action.{Effects, Outcome, ◌>>◌, step, undecided}
 use Rattle.hum_meaning.specs.Language.{Matched, Meaning, Language}
 use Rattle.hum_meaning.specs.Eval.{eval_node}
 use Rattle.hum_meaning.specs.Exec.{statements}
@@ -14,9 +14,10 @@ module _ {L : Parts} (language : Language L) (self base : ℕ) where
   -- one level over what is below it; each expression that is evaluated is one step
   abbrev pub stage : Meaning L → Meaning L
   stage below = record {
-    eval = λ e env. step >> eval_node language self base below (language.expr e) env
-    ; matches = language.match_node below.eval below.matches
-    ; exec = λ b env. statements base below (language.body b) env }
+    eval = λ e env. step >> eval_node language self base below (language.expr e) env;
+    matches = language.match_node below.eval below.matches;
+    exec = λ b env. statements base below (language.body b) env;
+  }
 
   -- the meaning of what nests less than n levels deep
   unfoldable pub level : ℕ → Meaning L

@@ -1,5 +1,5 @@
 -- The language as it is written: its trees, and names.
-use Rattle.std.specs.Prelude.{ℕ, Bool, true, false, List, [], ◌∷◌, map, Option, Some, None}
+use Rattle.std.specs.Prelude.{ℕ, true, false, List, [], map, Option, Some, None}
 use Rattle.hum_syntax.specs.declared.tree.Expr.{Expr, out-Expr}
 use Rattle.hum_syntax.specs.declared.tree.Pat.{Pat, out-Pat}
 use Rattle.hum_syntax.specs.declared.tree.Stmt.{Stmt, out-Stmt}
@@ -7,7 +7,7 @@ use Rattle.hum_syntax.specs.declared.tree.Arm.{Arm, out-Arm}
 use Rattle.hum_syntax.specs.declared.tree.Branch.{Branch, out-Branch}
 use Rattle.hum_syntax.specs.declared.tree.Expr.TheOpen.{Expr-F, Pat-F, Stmt-F}
 use Rattle.hum_syntax.specs.declared.tree.Expr.TheOpen as layer
-use Rattle.hum_meaning.specs.Value.{Parts, Undefined, Nil, Truth, Number, Symbol, Value, Plain, text_value}
+use Rattle.hum_meaning.specs.Value.{Parts, Undefined, Nil, Truth, Number, Symbol, Plain, text_value}
 use Rattle.hum_meaning.specs.Language.{ExprNode, Is, Var, Myself, Abs, BlockOf, Call, Tuple, New, Case, If}
 
 abbrev pub Name : Type 0
@@ -29,10 +29,17 @@ pub record Trees : Type 1 where
 -- the trees that tokens spell
 abbrev pub written : Trees
 written = record {
-  Expr = Expr; Pat = Pat; Stmt = Stmt; Arm = Arm; Branch = Branch
-  ; expr = out-Expr; pat = out-Pat; stmt = out-Stmt
-  ; arm = λ a. ((out-Arm a).pattern, (out-Arm a).value)
-  ; branch = λ b. ((out-Branch b).condition, (out-Branch b).block) }
+  Expr = Expr;
+  Pat = Pat;
+  Stmt = Stmt;
+  Arm = Arm;
+  Branch = Branch;
+  expr = out-Expr;
+  pat = out-Pat;
+  stmt = out-Stmt;
+  arm = λ a. ((out-Arm a).pattern, (out-Arm a).value);
+  branch = λ b. ((out-Branch b).condition, (out-Branch b).block);
+}
 
 module _ (t : Trees) where
   -- the pattern and the body of an abstraction

@@ -1,5 +1,5 @@
 -- Comparison of values.
-use Rattle.std.specs.Prelude.{ℕ, ◌==◌, Bool, true, false, not, if◌then◌else◌, Option, Some, None}
+use Rattle.std.specs.Prelude.{◌==◌, Bool, true, false, not, if◌then◌else◌}
 use Rattle.std.specs.Str.{bytes_eq}
 use Rattle.std.specs.Ordering.{int_eq}
 use Rattle.hum_meaning.specs.Value.{Parts, Atom, Undefined, Nil, Truth, Number, Symbol, Actor, Value, Plain, Pair}

@@ -20,9 +20,13 @@ pub data Atom : Type 0 where
   Symbol : List ℕ → Atom
   Actor : ℕ → Atom
 
--- the built-in functions, numbered from 0 in this order
+-- the built-in functions
 pub data BuiltIn : Type 0 where
   Add Sub Mul Compare Less LessEqual Greater GreaterEqual Equal And Or Not : BuiltIn
+
+-- in the order of their numbers, from 0
+abbrev pub built_ins : List BuiltIn
+built_ins = Add ∷ Sub ∷ Mul ∷ Compare ∷ Less ∷ LessEqual ∷ Greater ∷ GreaterEqual ∷ Equal ∷ And ∷ Or ∷ Not ∷ []
 
 mutual
   -- an atom, a pair, a function and a block with the environment that they were made in, or a built-in function

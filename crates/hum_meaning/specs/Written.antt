@@ -8,11 +8,12 @@ use Rattle.hum_meaning.specs.Match.{match_tree}
 
 abbrev pub named_language : (t : Trees) → Language (Named t)
 named_language t = record {
-  expr = λ e. expr_node t (t.expr e)
-  ; body = body_of t
-  ; abstraction = λ f. Some f
-  ; look = look t
-  ; match_node = λ eval matches p. match_tree t eval matches (t.pat p) }
+  expr = λ e. expr_node t (t.expr e);
+  body = body_of t;
+  abstraction = λ f. Some f;
+  look = look t;
+  match_node = λ eval matches p. match_tree t eval matches (t.pat p);
+}
 
 -- the one that the trees of programs are in
 abbrev pub humus : Language (Named written)

@@ -21,3 +21,6 @@ pub use laws::{
     deliveries_stay, depth_is_enough, evaluation_stays, execution_stays, journals_decide,
     matching_stays,
 };
+
+#[cfg(test)]
+mod tests;
