@@ -1,5 +1,5 @@
 -- Worked programs: what they write, and each event with the steps that it takes and its end.
-use Rattle.std.proofs.Common.{◌≡◌, refl, ℕ, pos, negsuc, true, false, List, [], ◌∷◌, ◌++◌, Some}
+use Rattle.std.proofs.Common.{◌≡◌, refl, pos, negsuc, true, false, List, [], ◌∷◌}
 use Rattle.std.specs.Fmt.{digits}
 use Rattle.std.proofs.Math.Utf8.{encode}
 use Rattle.hum_meaning.specs.Same.{same}
@@ -42,8 +42,8 @@ an_actor = refl
 abbrev counting : List Stmt
 counting =
     define "counter" (bind "n") (abs (bind "step") (block (
-      send (call_both "add" (var "n") (var "step")) println
-      ∷ become (call (var "counter") (call_both "add" (var "n") (var "step"))) ∷ [])))
+    send (call_both "add" (var "n") (var "step")) println
+    ∷ become (call (var "counter") (call_both "add" (var "n") (var "step"))) ∷ [])))
     ∷ create "c" (call (var "counter") (num 0))
     ∷ send (num 1) (var "c")
     ∷ send (num 10) (var "c") ∷ []
@@ -79,9 +79,9 @@ abbrev joined : List Stmt
 joined =
     define "answer" (bind "n") (abs (bind "cust") (block (send (var "n") (var "cust") ∷ [])))
     ∷ define "start" (triple_pat (bind "x") (bind "y") (bind "cust")) (abs any (block (
-      send myself (var "x")
-      ∷ send myself (var "y")
-      ∷ become (abs (bind "a") (block (become (abs (bind "b") (block (send (call_both "add" (var "a") (var "b")) (var "cust") ∷ []))) ∷ []))) ∷ [])))
+    send myself (var "x")
+    ∷ send myself (var "y")
+    ∷ become (abs (bind "a") (block (become (abs (bind "b") (block (send (call_both "add" (var "a") (var "b")) (var "cust") ∷ []))) ∷ []))) ∷ [])))
     ∷ create "x" (call (var "answer") (num 3))
     ∷ create "y" (call (var "answer") (num 4))
     ∷ create "j" (call (var "start") (triple (var "x") (var "y") println))
@@ -105,8 +105,8 @@ fork_and_join = refl
 abbrev ring : List Stmt
 ring =
     define "link" (bind "next") (abs (bind "n") (block (perform (cases (var "n") (
-      arm (int_pat (pos 0)) (block (send (symbol "done") println ∷ []))
-      ∷ arm any (block (send (call_both "sub" (var "n") (num 1)) (var "next") ∷ [])) ∷ [])) ∷ [])))
+    arm (int_pat (pos 0)) (block (send (symbol "done") println ∷ []))
+    ∷ arm any (block (send (call_both "sub" (var "n") (num 1)) (var "next") ∷ [])) ∷ [])) ∷ [])))
     ∷ create "first" (abs (bind "next") (block (become (call (var "link") (var "next")) ∷ [])))
     ∷ create "a" (call (var "link") (var "first"))
     ∷ create "b" (call (var "link") (var "a"))
@@ -183,8 +183,8 @@ sends_nothing = refl
 abbrev twice : List Stmt
 twice =
     define "twice" (bind "out") (abs (bind "m") (block (perform (cases (var "m") (
-      arm (symbol_pat "bad") (block (become (var "quiet") ∷ become (var "quiet") ∷ []))
-      ∷ arm any (block (send (var "m") (var "out") ∷ [])) ∷ [])) ∷ [])))
+    arm (symbol_pat "bad") (block (become (var "quiet") ∷ become (var "quiet") ∷ []))
+    ∷ arm any (block (send (var "m") (var "out") ∷ [])) ∷ [])) ∷ [])))
     ∷ define "quiet" any (block [])
     ∷ create "t" (call (var "twice") println)
     ∷ send (symbol "bad") (var "t")
