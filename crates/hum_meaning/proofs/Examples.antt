@@ -18,8 +18,14 @@ unfolding level same built_in deliver piece digits
 empty_file = refl
 
 -- SEND 42 TO println
-hello : program (send (num 42) println ∷ []) ≡ rests "42\n" ((0, 5, Commits) ∷ (1, 0, Commits) ∷ [])
+a_number : program (send (num 42) println ∷ []) ≡ rests "42\n" ((0, 5, Commits) ∷ (1, 0, Commits) ∷ [])
 unfolding level same built_in deliver piece digits
+a_number = refl
+
+-- SEND 42 TO println
+-- SEND "hello" TO say
+hello : program (send (num 42) println ∷ send (text "hello") say ∷ []) ≡ rests "42\nhello\n" ((0, 8, Commits) ∷ (1, 0, Commits) ∷ (2, 0, Commits) ∷ [])
+unfolding level same built_in deliver piece digits encode
 hello = refl
 
 -- CREATE greeter WITH \name.[ SEND (#hello, name) TO println ]
@@ -54,7 +60,7 @@ state = refl
 
 -- CREATE square WITH \(n, cust).[ SEND mul(n, n) TO cust ]
 -- SEND (7, println) TO square
--- SEND (7, NEW \x.[ SEND (#square, x) TO println ]) TO square
+-- SEND (7, NEW (\x.[ SEND (#square, x) TO println ])) TO square
 abbrev squares : List Stmt
 squares =
     create "square" (abs (pair_pat (bind "n") (bind "cust")) (block (send (call_both "mul" (var "n") (var "n")) (var "cust") ∷ [])))
@@ -291,7 +297,7 @@ the_end_of_a_stretch = refl
 
 -- ---- devices
 
--- SEND ((1, 2), -3, NIL, TRUE, FALSE, ?, #a, println, \x.x, [ ], add) TO println
+-- SEND ((1, 2), -3, NIL, TRUE, FALSE, ?, #a, println, (\x.x), [ ], add) TO println
 abbrev one_of_each : List Expr
 one_of_each =
     pair (num 1) (num 2) ∷ int (negsuc 2) ∷ nil ∷ truth true ∷ truth false ∷ undefined ∷ symbol "a" ∷ println ∷ abs (bind "x") (var "x") ∷ block [] ∷ var "add" ∷ []
@@ -306,6 +312,11 @@ texts = refl
 said : program (send (text "hi") say ∷ send (text "") say ∷ []) ≡ rests "hi\n\n" ((0, 8, Commits) ∷ (1, 0, Commits) ∷ (2, 0, Commits) ∷ [])
 unfolding level same built_in deliver piece digits encode
 said = refl
+
+-- SEND "hi" TO println
+a_list : program (send (text "hi") println ∷ []) ≡ rests "(104, 105, NIL)\n" ((0, 5, Commits) ∷ (1, 0, Commits) ∷ [])
+unfolding level same built_in deliver piece digits
+a_list = refl
 
 -- SEND 5 TO say
 no_list : program (send (num 5) say ∷ []) ≡ rests "" ((0, 5, Commits) ∷ (1, 0, FailsWith 8) ∷ [])

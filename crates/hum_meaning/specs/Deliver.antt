@@ -21,7 +21,8 @@ pub record Configuration (L : Parts) : Type 0 where
   pub next_number : ℕ
   pub output : List ℕ
 
--- how a delivery ends: with the configuration after it; a failure has its code and the number of messages that were gathered
+-- how a delivery ends: with the configuration after it, where a failure also has its code and the number of messages that were gathered; it
+-- stays open where the steps do not suffice
 pub data Delivery (L : Parts) : Type 0 where
   Committed : Configuration L → Delivery L
   Failed : (code sends : ℕ) → Configuration L → Delivery L
