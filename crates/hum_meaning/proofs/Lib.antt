@@ -1,5 +1,6 @@
 pub mod Agrees
 pub mod Law
+pub mod PatternLaw
 pub mod NamedLaw
 pub mod Deliveries
 pub mod Plain

@@ -6,6 +6,7 @@ pub mod Language
 pub mod Eval
 pub mod Exec
 pub mod Meaning
+pub mod Pattern
 pub mod Named
 pub mod Body
 pub mod Look

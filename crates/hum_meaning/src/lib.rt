@@ -3,7 +3,7 @@
 //! `specs/` defines, from the bottom up, values, environments and behaviours (`Value`), what an event gathers and how it ends (`Action`),
 //! comparison (`Same`) and the built-in functions (`BuiltIns`); then evaluation and execution over one node of a tree (`Eval`, `Exec`),
 //! whatever the trees are (`Language`), and within a number of steps (`Meaning`); then the language as it is written: its trees and names
-//! (`Named`), stretches of functions (`Body`), names in environments (`Look`) and patterns (`Match`); and at last what the devices write
+//! (`Named`), stretches of functions (`Body`), names in environments (`Look`) and patterns (`Match`, by the parts of `Pattern`); and at last what the devices write
 //! (`Piece`), the delivery of one message (`Deliver`) and the configuration after a journal (`After`).
 //!
 //! The laws are functions without a body. What some number of steps decides, every larger one decides so: `evaluation_stays`,

@@ -1,0 +1,4 @@
+pub mod Lawful
+pub mod Following
+pub mod Acts
+pub mod Simulates

@@ -1,0 +1,14 @@
+//! Numbered trees: what the compiler makes of a program's tree, and what they mean.
+//!
+//! In a numbered tree a use of a name is a `Slot`, and abstractions and blocks are units with numbers. In `Resolved` patterns are trees; in
+//! `Program` they are lists of tests. `specs/` gives both their meaning, by the same evaluator that gives a program its own
+//! (`hum_meaning`), and says when a numbered tree stands for a written one.
+#![tactic(auto)]
+
+mod resolved;
+mod slot;
+mod tested;
+
+pub use resolved::{CoreArm, CoreBranch, CoreExpr, CorePat, CoreStmt, CoreUnit, Resolved};
+pub use slot::{Const, Slot};
+pub use tested::{Program, Test, TestArm, TestBranch, TestExpr, TestStmt, TestUnit};
