@@ -2,3 +2,8 @@ pub mod Lawful
 pub mod Following
 pub mod Acts
 pub mod Simulates
+pub mod Wholly
+pub mod Looked
+pub mod Names
+pub mod Patterns
+pub mod Agreed

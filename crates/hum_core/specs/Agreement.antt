@@ -115,6 +115,3 @@ pub record MeansTheSame (units : List CoreUnit) : Type 0 where
   pub execution : (self base s : ℕ) (ss : List Stmt) (k : ℕ) (env : Env (Named written)) (env' : Env Core) (f : Effects (Named written)) (g : Effects Core) →
     (Resolution units).BodyAs (scope_of env) ss k → AlikeEnv (Resolution units) env env' → EffectsAs (Resolution units) f g →
     OutcomeAs (Resolution units) s (λ x y. Unit {0}) (execute humus self base ss env f s) (execute (core_language units) self base k env' g s)
-
-abbrev pub ResolvedTreesMeanTheSame : Type 0
-ResolvedTreesMeanTheSame = (units : List CoreUnit) → MeansTheSame units

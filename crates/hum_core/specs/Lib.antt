@@ -5,3 +5,4 @@ pub mod TestLists
 pub mod Alike
 pub mod Reading
 pub mod Agreement
+pub mod Laws

@@ -1,0 +1,29 @@
+-- What is so of the numbered languages.
+use Rattle.std.specs.Prelude.{ℕ, List}
+use Rattle.hum_core.specs.declared.resolved.CoreUnit.{CoreUnit}
+use Rattle.hum_core.specs.declared.resolved.CoreExpr.{CoreExpr}
+use Rattle.hum_core.specs.declared.tested.TestUnit.{TestUnit}
+use Rattle.hum_core.specs.declared.tested.TestExpr.{TestExpr}
+use Rattle.hum_meaning.specs.Value.{Parts, Env}
+use Rattle.hum_meaning.specs.Action.{Effects}
+use Rattle.hum_meaning.specs.Language.{Language}
+use Rattle.hum_meaning.specs.Meaning.{evaluate, execute}
+use Rattle.hum_meaning.specs.Laws.{Stays}
+use Rattle.hum_core.specs.CoreTrees.{core_language}
+use Rattle.hum_core.specs.TestLists.{tests_language}
+use Rattle.hum_core.specs.Agreement.{MeansTheSame}
+
+-- what s steps decide of an expression or a body, s + j steps decide so, with j more steps left
+pub record DecisionsStay {L : Parts} (language : Language L) : Type 0 where
+  pub evaluation : (self base : ℕ) (e : L.Expr) (env : Env L) (effects : Effects L) → Stays (evaluate language self base e env effects)
+  pub execution : (self base : ℕ) (b : L.Body) (env : Env L) (effects : Effects L) → Stays (execute language self base b env effects)
+
+abbrev pub ResolvedDecisionsStay : Type 0
+ResolvedDecisionsStay = (units : List CoreUnit) → DecisionsStay (core_language units)
+
+abbrev pub TestedDecisionsStay : Type 0
+TestedDecisionsStay = (units : List TestUnit) → DecisionsStay (tests_language units)
+
+-- a written tree means what the numbered one does that it stands for
+abbrev pub ResolvedTreesMeanTheSame : Type 0
+ResolvedTreesMeanTheSame = (units : List CoreUnit) → MeansTheSame units

@@ -1,0 +1,19 @@
+// What is so of the numbered languages.
+
+ghost use Rattle.hum_core.specs.Laws.{ResolvedDecisionsStay, TestedDecisionsStay, ResolvedTreesMeanTheSame};
+
+/// A written tree means what the numbered one does that it stands for: for environments that are alike and every number of steps the outcomes
+/// are alike, failures and undecided ones included, with as many steps left.
+pub fn resolved_trees_mean_the_same()
+    ensures { ResolvedTreesMeanTheSame }
+{}
+
+/// What s steps decide of numbered trees whose patterns are trees, s + j steps decide so, with j more steps left.
+pub fn resolved_decisions_stay()
+    ensures { ResolvedDecisionsStay }
+{}
+
+/// What s steps decide of numbered trees whose patterns are tests, s + j steps decide so, with j more steps left.
+pub fn tested_decisions_stay()
+    ensures { TestedDecisionsStay }
+{}
