@@ -1,4 +1,4 @@
--- A written tree means what the numbered one does that it stands for.
+-- The reading of written trees in numbered ones is sound.
 use Rattle.std.proofs.Common.{◌≡◌, refl, ap, sym, ◌∙◌, ℕ, suc, ◌≤◌, true, false, List, [], ◌∷◌, ◌++◌, map, Option, Some, None, arith}
 use Rattle.hum_syntax.specs.declared.tree.Pat.{Pat, out-Pat}
 use Rattle.hum_syntax.specs.declared.tree.Expr.TheOpen as layer
@@ -16,9 +16,8 @@ use Rattle.hum_core.specs.Numbered.{atom_of}
 use Rattle.hum_core.specs.CoreTrees.{Core, core_match, core_language}
 use Rattle.hum_core.specs.Alike.{Scope, scope_of, Both, Each, Reading, Alike, AlikeEnv}
 use Rattle.hum_core.specs.Reading.{reading_to}
-use Rattle.hum_core.specs.Agreement.{Names, joined, names_of, WrittenPat, NumberedPat, PatternNodeAs, resolving, Resolution, MeansTheSame}
+use Rattle.hum_core.specs.Agreement.{Names, joined, names_of, WrittenPat, NumberedPat, PatternNodeAs, resolving, Resolution}
 use Rattle.hum_core.proofs.Following.{ActsAs, Bound, marks_of, EntriesAs, Follows, Sound}
-use Rattle.hum_core.proofs.Simulates.{level_follows}
 use Rattle.hum_core.proofs.Wholly.{each_all, expr_all, statements_all, abstraction_all}
 use Rattle.hum_core.proofs.Names.{names_of_items, names_here, names_out}
 use Rattle.hum_core.proofs.Patterns.{renamed, any_as, bind_mark_as, atom_as, value_as, marks_of_items, tuple_as}
@@ -76,8 +75,3 @@ module _ (units : List CoreUnit) where
     ; matching = λ self base b all n n' le le' p q v w env env' es ds a c i j.
         renamed R (suc b) _ _ _ _ (ap (λ z. z ++ marks_of R es) (sym (names_out p)))
           (node_as b _ _ (all n n' le le') env env' a (out-Pat p) (out-CorePat q) (pattern_all (scope_of env) _ _ (λ n. c (suc n))) v w es ds i j) }
-
-  pub means_the_same : MeansTheSame units
-  means_the_same = record {
-    evaluation = λ self base s e d env env' f g c a k. ((level_follows R _ _ resolution_sound self base (suc s) (suc s) (suc s) (omega arith) (omega arith)).eval e d env env' a c).at f g s (omega arith) k
-    ; execution = λ self base s ss n env env' f g c a k. ((level_follows R _ _ resolution_sound self base (suc s) (suc s) (suc s) (omega arith) (omega arith)).exec ss n env env' a c).at f g s (omega arith) k }

@@ -7,3 +7,5 @@ pub mod Looked
 pub mod Names
 pub mod Patterns
 pub mod Agreed
+pub mod Splits
+pub mod Slots

@@ -8,6 +8,7 @@ use Rattle.hum_meaning.specs.Eval.{if_matched, if_true, found, enter, tuple, arm
 use Rattle.hum_meaning.specs.Exec.{send_to, perform, statement, statements}
 use Rattle.hum_meaning.specs.Meaning.{level}
 use Rattle.hum_core.specs.Alike.{One, Scope, scope_of, grouped, with_marks, Both, Each, Reading, Alike, plain_as, pair_as, function_as, block_as, primitive_as, AlikeEnv, bind_as, group_as, ArmAs, BranchAs, ExprNodeAs, StatementsAs}
+use Rattle.hum_core.specs.Reading.{MeanAlike}
 use Rattle.hum_core.proofs.Following.{ActsAs, Bound, marks_of, EntriesAs, Follows, Sound}
 use Rattle.hum_core.proofs.Acts.{step_as, step_keeps, bind_as', pure_as, fail_as, create_as, send_as, become_as, constant_as, built_in_as}
 
@@ -176,3 +177,8 @@ module _ {L K : Parts} (r : Reading L K) (l : Language L) (k : Language K) (soun
         eval = λ e d env env' a c. step_as r b _ _ _ (eval_node_as r l k sound self base b _ _ h env env' a (l.expr e) (k.expr d) (sound.expr (scope_of env) e d c))
         ; matches = sound.matching self base b (level_follows b) n n' (omega (arith, le)) (omega (arith, le'))
         ; exec = λ c d env env' a i. body_as b _ _ h (l.body c) (k.body d) env env' a (sound.body (scope_of env) c d i) }
+
+pub means_alike : {L K : Parts} (r : Reading L K) (l : Language L) (k : Language K) → Sound r l k → MeanAlike r l k
+means_alike r l k sound = record {
+  evaluation = λ self base s e d env env' f g c a h. ((level_follows r l k sound self base (suc s) (suc s) (suc s) (omega arith) (omega arith)).eval e d env env' a c).at f g s (omega arith) h
+  ; execution = λ self base s b c env env' f g i a h. ((level_follows r l k sound self base (suc s) (suc s) (suc s) (omega arith) (omega arith)).exec b c env env' a i).at f g s (omega arith) h }

@@ -20,7 +20,6 @@ use Rattle.hum_core.specs.declared.resolved.CoreExpr.TheOpen.{CorePat-F}
 use Rattle.hum_core.specs.declared.resolved.CoreExpr.TheOpen as core
 use Rattle.hum_meaning.specs.Value.{Value, Env}
 use Rattle.hum_meaning.specs.Action.{Effects}
-use Rattle.hum_meaning.specs.Meaning.{evaluate, match, execute}
 use Rattle.hum_meaning.specs.Named.{Name, Named, written}
 use Rattle.hum_meaning.specs.Written.{humus}
 use Rattle.hum_core.specs.CoreTrees.{Core, core_language}
@@ -100,18 +99,8 @@ resolving = record {
   ; marks = names_of
   ; PatternNodeAs = λ r scope p q. PatternNodeAs r scope (out-Pat p) (out-CorePat q) }
 
--- ---- the agreement
+-- ---- whole trees
 
 -- which written trees these units stand for
 abbrev pub Resolution : List CoreUnit → Reading (Named written) Core
 Resolution units = whole_reading humus (core_language units) resolving
-
--- What stands for one another means the same, for environments that are alike and all numbers of steps: the outcomes are alike, failures and
--- undecided included, in both directions.
-pub record MeansTheSame (units : List CoreUnit) : Type 0 where
-  pub evaluation : (self base s : ℕ) (e : Expr) (d : CoreExpr) (env : Env (Named written)) (env' : Env Core) (f : Effects (Named written)) (g : Effects Core) →
-    (Resolution units).ExprAs (scope_of env) e d → AlikeEnv (Resolution units) env env' → EffectsAs (Resolution units) f g →
-    OutcomeAs (Resolution units) s (Alike (Resolution units)) (evaluate humus self base e env f s) (evaluate (core_language units) self base d env' g s)
-  pub execution : (self base s : ℕ) (ss : List Stmt) (k : ℕ) (env : Env (Named written)) (env' : Env Core) (f : Effects (Named written)) (g : Effects Core) →
-    (Resolution units).BodyAs (scope_of env) ss k → AlikeEnv (Resolution units) env env' → EffectsAs (Resolution units) f g →
-    OutcomeAs (Resolution units) s (λ x y. Unit {0}) (execute humus self base ss env f s) (execute (core_language units) self base k env' g s)

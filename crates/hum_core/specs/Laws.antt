@@ -11,7 +11,10 @@ use Rattle.hum_meaning.specs.Meaning.{evaluate, execute}
 use Rattle.hum_meaning.specs.Laws.{Stays}
 use Rattle.hum_core.specs.CoreTrees.{core_language}
 use Rattle.hum_core.specs.TestLists.{tests_language}
-use Rattle.hum_core.specs.Agreement.{MeansTheSame}
+use Rattle.hum_meaning.specs.Written.{humus}
+use Rattle.hum_core.specs.Reading.{MeanAlike}
+use Rattle.hum_core.specs.Agreement.{Resolution}
+use Rattle.hum_core.specs.Lowering.{Lowered}
 
 -- what s steps decide of an expression or a body, s + j steps decide so, with j more steps left
 pub record DecisionsStay {L : Parts} (language : Language L) : Type 0 where
@@ -26,4 +29,8 @@ TestedDecisionsStay = (units : List TestUnit) → DecisionsStay (tests_language 
 
 -- a written tree means what the numbered one does that it stands for
 abbrev pub ResolvedTreesMeanTheSame : Type 0
-ResolvedTreesMeanTheSame = (units : List CoreUnit) → MeansTheSame units
+ResolvedTreesMeanTheSame = (units : List CoreUnit) → MeanAlike (Resolution units) humus (core_language units)
+
+-- patterns as trees mean what their tests do
+abbrev pub LoweredTreesMeanTheSame : Type 0
+LoweredTreesMeanTheSame = (units : List CoreUnit) (tested : List TestUnit) → MeanAlike (Lowered units tested) (core_language units) (tests_language tested)

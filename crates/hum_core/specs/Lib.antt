@@ -5,4 +5,5 @@ pub mod TestLists
 pub mod Alike
 pub mod Reading
 pub mod Agreement
+pub mod Lowering
 pub mod Laws

@@ -1,8 +1,10 @@
 -- The reading of one language in another that goes by their nodes: a tree stands for a tree where it does to every depth.
 use Rattle.std.specs.Prelude.{ℕ, zero, suc, List}
-use Rattle.hum_meaning.specs.Value.{Parts}
+use Rattle.hum_meaning.specs.Value.{Parts, Env}
+use Rattle.hum_meaning.specs.Action.{Effects}
 use Rattle.hum_meaning.specs.Language.{Language}
-use Rattle.hum_core.specs.Alike.{Scope, Both, Reading, ArmAs, ExprNodeAs, StatementsAs}
+use Rattle.hum_meaning.specs.Meaning.{evaluate, execute}
+use Rattle.hum_core.specs.Alike.{Scope, scope_of, Both, Reading, ArmAs, ExprNodeAs, StatementsAs, Alike, AlikeEnv, EffectsAs, OutcomeAs}
 
 -- how patterns and references stand for one another, one node at a time, and the marks that a pattern binds
 pub record Linking (L K : Parts) : Type 1 where
@@ -47,3 +49,15 @@ module _ {L K : Parts} (l : Language L) (k : Language K) (link : Linking L K) wh
     ; Patterns = λ scope p q. (n : ℕ) → (relations_to n).Patterns scope p q
     ; Bodies = λ scope b c. (n : ℕ) → (relations_to n).Bodies scope b c
     ; Abstractions = λ scope f g. (n : ℕ) → (relations_to n).Abstractions scope f g })
+
+-- ---- what a reading promises
+
+-- What stands for one another means the same, for environments that are alike and every number of steps: the outcomes are alike, in both
+-- directions.
+pub record MeanAlike {L K : Parts} (r : Reading L K) (l : Language L) (k : Language K) : Type 0 where
+  pub evaluation : (self base s : ℕ) (e : L.Expr) (d : K.Expr) (env : Env L) (env' : Env K) (f : Effects L) (g : Effects K)
+    → r.ExprAs (scope_of env) e d → AlikeEnv r env env' → EffectsAs r f g
+    → OutcomeAs r s (Alike r) (evaluate l self base e env f s) (evaluate k self base d env' g s)
+  pub execution : (self base s : ℕ) (b : L.Body) (c : K.Body) (env : Env L) (env' : Env K) (f : Effects L) (g : Effects K)
+    → r.BodyAs (scope_of env) b c → AlikeEnv r env env' → EffectsAs r f g
+    → OutcomeAs r s (λ x y. Unit {0}) (execute l self base b env f s) (execute k self base c env' g s)

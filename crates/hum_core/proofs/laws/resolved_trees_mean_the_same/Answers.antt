@@ -1,5 +1,9 @@
-use Rattle.hum_core.proofs.Agreed.{means_the_same}
+use Rattle.hum_meaning.specs.Written.{humus}
+use Rattle.hum_core.specs.CoreTrees.{core_language}
+use Rattle.hum_core.specs.Agreement.{Resolution}
+use Rattle.hum_core.proofs.Simulates.{means_alike}
+use Rattle.hum_core.proofs.Agreed.{resolution_sound}
 use Rattle.hum_core.proofs.laws.resolved_trees_mean_the_same.Goals as goal
 
 pub returns : goal.returns
-returns c = means_the_same
+returns c = λ units. means_alike (Resolution units) humus (core_language units) (resolution_sound units)
