@@ -2,11 +2,11 @@
 use Rattle.std.proofs.Common.{◌≡◌, refl, ap, subst, ℕ, zero, suc, ◌+◌, ◌<◌, ◌≤◌, Bool, true, false, List, [], ◌∷◌, ◌++◌, length, Option, Some, None, arith}
 use Rattle.std.specs.Prelude.{if◌then◌else◌, ℤ, ◌+ℤ◌, ◌-ℤ◌, ◌*ℤ◌, int_lt, not, ◌&&◌, ◌||◌}
 use Rattle.cap_words.specs.Fixnums.{wrap, comparison}
-use Rattle.hum_meaning.specs.Value.{Parts, Atom, Undefined, Nil, Truth, Number, Symbol, Actor, BuiltIn, Add, Sub, Mul, Compare, Less, LessEqual, Greater, GreaterEqual, Equal, And, Or, Not, Value, Plain, Pair}
+use Rattle.hum_meaning.specs.Value.{Parts, Atom, Truth, Number, BuiltIn, Add, Sub, Mul, Compare, Less, LessEqual, Greater, GreaterEqual, Equal, And, Or, Not, Value, Plain, Pair}
 use Rattle.hum_meaning.specs.Action.{Action, Effects, Outcome, Gives, Fails, Undecided, and_then, ◌>>=◌, ◌>>◌, pure, fail, no_match, not_a_number, not_a_truth_value, second_become, spend, step, create, send, becoming, become}
 use Rattle.hum_meaning.specs.Same.{same, same_atom}
 use Rattle.hum_meaning.specs.BuiltIns.{built_in, on_pair, on_numbers, on_truths, negation, equality}
-use Rattle.hum_core.specs.Alike.{Both, Each, Reading, ConstantAs, Alike, plain_as, pair_as, function_as, block_as, primitive_as, SentAs, EffectsAs, OutcomeAs}
+use Rattle.hum_core.specs.Alike.{Both, Each, Reading, ConstantAs, Alike, plain_as, pair_as, SentAs, EffectsAs, OutcomeAs}
 use Rattle.hum_core.proofs.Following.{ActsAs}
 
 each_end : {A B : Type 0} (R : A → B → Type 0) (xs : List A) (ys : List B) (a : A) (b : B) → Each R xs ys → R a b → Each R (xs ++ a ∷ []) (ys ++ b ∷ [])

@@ -15,9 +15,7 @@ use Rattle.hum_core.specs.declared.tested.TestBranch.{TestBranch}
 use Rattle.hum_core.specs.declared.tested.Test.TheOpen.{Test-F}
 use Rattle.hum_core.specs.declared.tested.Test.TheOpen as layer
 use Rattle.hum_meaning.specs.Value.{Value, Plain, Env, Entry}
-use Rattle.hum_meaning.specs.Action.{Action}
-use Rattle.hum_meaning.specs.Language.{Meaning, Matched}
-use Rattle.hum_meaning.specs.Pattern.{Match}
+use Rattle.hum_meaning.specs.Language.{Meaning}
 use Rattle.hum_meaning.proofs.Agrees.{Agrees, pure_agrees, bind_agrees, step_agrees, step_keeps}
 use Rattle.hum_meaning.proofs.Law.{Stands, Lawful, if_matched_agrees, if_pair_agrees, equals_agrees}
 use Rattle.hum_meaning.proofs.PatternLaw.{MatchesAgree, any_agrees, bind_mark_agrees, atom_agrees, value_agrees, tuple_agrees}

@@ -9,3 +9,5 @@ pub mod Patterns
 pub mod Agreed
 pub mod Splits
 pub mod Slots
+pub mod Marks
+pub mod Lowered

@@ -1,9 +1,9 @@
 -- The value of a name is at its slot.
-use Rattle.std.proofs.Common.{◌≡◌, refl, ap, subst, ℕ, zero, suc, Bool, true, false, List, [], ◌∷◌, map, Option, Some, None, slice_get}
+use Rattle.std.proofs.Common.{◌≡◌, refl, ap, subst, ℕ, Bool, true, false, List, [], ◌∷◌, map, Option, Some, None, slice_get}
 use Rattle.std.specs.Prelude.{if◌then◌else◌}
 use Rattle.std.specs.Str.{bytes_eq}
 use Rattle.hum_core.specs.declared.slot.Slot.{Slot}
-use Rattle.hum_meaning.specs.Value.{Value, Function, Env, Outside, Bind, Group}
+use Rattle.hum_meaning.specs.Value.{Value, Function, Env, Bind, Group}
 use Rattle.hum_meaning.specs.Named.{Name, Lambda, Named, written}
 use Rattle.hum_meaning.specs.Look.{look, definition, member as named_member}
 use Rattle.hum_core.specs.Numbered.{Code, at_slot, member}

@@ -1,5 +1,5 @@
 -- The names that a pattern binds, one node at a time.
-use Rattle.std.proofs.Common.{◌≡◌, refl, ap, ◌∙◌, ℕ, List, [], ◌∷◌, ◌++◌, map}
+use Rattle.std.proofs.Common.{◌≡◌, refl, ◌∙◌, List, [], ◌∷◌, map}
 use Rattle.hum_syntax.specs.declared.tree.Expr.{Expr}
 use Rattle.hum_syntax.specs.declared.tree.Pat.{Pat, out-Pat, fold_out-Pat, map-Pat}
 use Rattle.hum_syntax.specs.declared.tree.Stmt.{Stmt}

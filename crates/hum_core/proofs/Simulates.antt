@@ -1,13 +1,13 @@
 -- Where a reading is sound, the one language means what the other does, with the same steps.
-use Rattle.std.proofs.Common.{◌≡◌, refl, ap, sym, subst, ◌∙◌, ℕ, zero, suc, ◌+◌, ◌<◌, ◌≤◌, Bool, true, false, List, [], ◌∷◌, ◌++◌, map, Option, Some, None, arith}
+use Rattle.std.proofs.Common.{◌≡◌, refl, ap, sym, subst, ◌∙◌, ℕ, zero, suc, ◌≤◌, Bool, true, false, List, [], ◌∷◌, ◌++◌, Option, Some, None, arith}
 use Rattle.std.proofs.lemmas.List.{append-nil}
-use Rattle.hum_meaning.specs.Value.{Parts, Atom, Nil, Truth, Actor, Value, Plain, Pair, Function, Block, Primitive, Env, Bind, Group, Entry, extend}
-use Rattle.hum_meaning.specs.Action.{Action, Effects, ◌>>=◌, ◌>>◌, pure, fail, no_match, not_a_function, not_an_actor, not_a_truth_value, thrown, step, create}
+use Rattle.hum_meaning.specs.Value.{Parts, Nil, Truth, Actor, Value, Plain, Env, Bind, Group, Entry, extend}
+use Rattle.hum_meaning.specs.Action.{Action, ◌>>=◌, no_match, not_a_function, not_an_actor, not_a_truth_value, thrown}
 use Rattle.hum_meaning.specs.Language.{ExprNode, Is, Var, Myself, Abs, BlockOf, Call, Tuple, New, Case, If, StmtNode, Let, Functions, Defined, Send, Create, Become, Throw, Do, Matched, Language, Meaning}
 use Rattle.hum_meaning.specs.Eval.{if_matched, if_true, found, enter, tuple, arms, branches, apply, eval_node}
 use Rattle.hum_meaning.specs.Exec.{send_to, perform, statement, statements}
 use Rattle.hum_meaning.specs.Meaning.{level}
-use Rattle.hum_core.specs.Alike.{One, Scope, scope_of, grouped, with_marks, Both, Each, Reading, Alike, plain_as, pair_as, function_as, block_as, primitive_as, AlikeEnv, bind_as, group_as, ArmAs, BranchAs, ExprNodeAs, StatementsAs}
+use Rattle.hum_core.specs.Alike.{One, Scope, scope_of, with_marks, Both, Each, Reading, Alike, plain_as, pair_as, function_as, block_as, primitive_as, AlikeEnv, bind_as, group_as, ArmAs, BranchAs, ExprNodeAs, StatementsAs}
 use Rattle.hum_core.specs.Reading.{MeanAlike}
 use Rattle.hum_core.proofs.Following.{ActsAs, Bound, marks_of, EntriesAs, Follows, Sound}
 use Rattle.hum_core.proofs.Acts.{step_as, step_keeps, bind_as', pure_as, fail_as, create_as, send_as, become_as, constant_as, built_in_as}
@@ -64,11 +64,11 @@ goes_on r scope _ more c = c
 module _ {L K : Parts} (r : Reading L K) (b' : ℕ) (m : Meaning L) (m' : Meaning K) (h : Follows r b' m m') where
   -- what stands behind a pattern that matches
   behind_as : (env : Env L) (env' : Env K) → AlikeEnv r env env' → (f : L.Pattern × L.Expr) (g : K.Pattern × K.Expr) → ArmAs r (scope_of env) f g → (v : Value L) (w : Value K) → Alike r v w → (p : Action L (Value L)) (q : Action K (Value K)) → ActsAs r b' (Alike r) p q →
-    ActsAs r b' (Alike r) (m.matches f.0 v env [] >>= (λ o. if_matched o (λ es. m.eval f.1 (extend es env)) p)) (m'.matches g.0 w env' [] >>= (λ o. if_matched o (λ es. m'.eval g.1 (extend es env')) q))
+      ActsAs r b' (Alike r) (m.matches f.0 v env [] >>= (λ o. if_matched o (λ es. m.eval f.1 (extend es env)) p)) (m'.matches g.0 w env' [] >>= (λ o. if_matched o (λ es. m'.eval g.1 (extend es env')) q))
   behind_as env env' a f g c v w i p q k =
       bind_as' r b' _ _ _ _ (λ o o' e. if_matched_as r b' (Alike r) _ o o' _ _ _ _ e
-        (λ es ds n. h.eval f.1 g.1 (extend es env) (extend ds env') (extend_as r b' es ds env env' n.1 a) (subst (λ s. r.ExprAs s f.1 g.1) (under r b' (r.marks f.0) es env n.0) c.1)) k)
-        _ _ (h.matches f.0 g.0 v w env env' [] [] a c.0 i tt)
+      (λ es ds n. h.eval f.1 g.1 (extend es env) (extend ds env') (extend_as r b' es ds env env' n.1 a) (subst (λ s. r.ExprAs s f.1 g.1) (under r b' (r.marks f.0) es env n.0) c.1)) k)
+      _ _ (h.matches f.0 g.0 v w env env' [] [] a c.0 i tt)
 
   enter_as : (env : Env L) (env' : Env K) {v : Value L} {w : Value K} → AlikeEnv r env env' → Alike r v w → (o : Option (L.Pattern × L.Expr)) (o' : Option (K.Pattern × K.Expr)) → Both (ArmAs r (scope_of env)) o o' → ActsAs r b' (Alike r) (enter m o env v) (enter m' o' env' w)
   enter_as env env' {v} {w} a b None None c = fail_as r b' (Alike r) not_a_function
@@ -129,8 +129,8 @@ module _ {L K : Parts} (r : Reading L K) (l : Language L) (k : Language K) (soun
   statement_as : (s : StmtNode L) (more : List (StmtNode L)) (t : StmtNode K) (others : List (StmtNode K)) → ((env : Env L) (env' : Env K) → AlikeEnv r env env' → StatementsAs r (scope_of env) more others → ActsAs r b' (λ x y. Unit {0}) (statements base m more env) (statements base m' others env')) → (env : Env L) (env' : Env K) → AlikeEnv r env env' → StatementsAs r (scope_of env) (s ∷ more) (t ∷ others) → ActsAs r b' (λ x y. Unit {0}) (statement base m s env (statements base m more)) (statement base m' t env' (statements base m' others))
   statement_as (Let p e) more (Let q d) others go env env' a c =
       bind_as' r b' _ _ _ _ (λ v w i. bind_as' r b' _ _ _ _ (λ o o' j. if_matched_as r b' _ _ o o' _ _ _ _ j
-        (λ es ds n. go (extend es env) (extend ds env') (extend_as r b' es ds env env' n.1 a) (subst (λ s. StatementsAs r s more others) (under r b' (r.marks p) es env n.0) c.2)) (fail_as r b' _ no_match))
-        _ _ (h.matches p q v w env env' [] [] a c.0 i tt)) _ _ (h.eval e d env env' a c.1)
+      (λ es ds n. go (extend es env) (extend ds env') (extend_as r b' es ds env env' n.1 a) (subst (λ s. StatementsAs r s more others) (under r b' (r.marks p) es env n.0) c.2)) (fail_as r b' _ no_match))
+      _ _ (h.matches p q v w env env' [] [] a c.0 i tt)) _ _ (h.eval e d env env' a c.1)
   statement_as (Functions fs) more (Functions gs) others go env env' a c = go (Group fs env) (Group gs env') (group_as c.0 a) c.1
   statement_as Defined more Defined others go env env' a c = go env env' a c
   statement_as (Send e x) more (Send d y) others go env env' a c =
@@ -166,19 +166,22 @@ module _ {L K : Parts} (r : Reading L K) (l : Language L) (k : Language K) (soun
   pub level_follows : (b n n' : ℕ) → b ≤ n → b ≤ n' → Follows r b (level l self base n) (level k self base n')
   unfolding level
   level_follows zero n n' le le' = record {
-    eval = λ e d env env' a c. nothing_acts _ _ _
-    ; matches = λ p q v w env env' es ds a c i j. nothing_acts _ _ _
-    ; exec = λ b c env env' a i. nothing_acts _ _ _ }
+    eval = λ e d env env' a c. nothing_acts _ _ _;
+    matches = λ p q v w env env' es ds a c i j. nothing_acts _ _ _;
+    exec = λ b c env env' a i. nothing_acts _ _ _;
+  }
   level_follows (suc b) zero n' le le' = absurd (omega (arith, le))
   level_follows (suc b) (suc n) zero le le' = absurd (omega (arith, le'))
   level_follows (suc b) (suc n) (suc n') le le' =
       let h : Follows r b (level l self base n) (level k self base n') = level_follows b n n' (omega (arith, le)) (omega (arith, le')) in
       record {
-        eval = λ e d env env' a c. step_as r b _ _ _ (eval_node_as r l k sound self base b _ _ h env env' a (l.expr e) (k.expr d) (sound.expr (scope_of env) e d c))
-        ; matches = sound.matching self base b (level_follows b) n n' (omega (arith, le)) (omega (arith, le'))
-        ; exec = λ c d env env' a i. body_as b _ _ h (l.body c) (k.body d) env env' a (sound.body (scope_of env) c d i) }
+        eval = λ e d env env' a c. step_as r b _ _ _ (eval_node_as r l k sound self base b _ _ h env env' a (l.expr e) (k.expr d) (sound.expr (scope_of env) e d c));
+        matches = sound.matching self base b (level_follows b) n n' (omega (arith, le)) (omega (arith, le'));
+        exec = λ c d env env' a i. body_as b _ _ h (l.body c) (k.body d) env env' a (sound.body (scope_of env) c d i);
+      }
 
 pub means_alike : {L K : Parts} (r : Reading L K) (l : Language L) (k : Language K) → Sound r l k → MeanAlike r l k
 means_alike r l k sound = record {
-  evaluation = λ self base s e d env env' f g c a h. ((level_follows r l k sound self base (suc s) (suc s) (suc s) (omega arith) (omega arith)).eval e d env env' a c).at f g s (omega arith) h
-  ; execution = λ self base s b c env env' f g i a h. ((level_follows r l k sound self base (suc s) (suc s) (suc s) (omega arith) (omega arith)).exec b c env env' a i).at f g s (omega arith) h }
+  evaluation = λ self base s e d env env' f g c a h. ((level_follows r l k sound self base (suc s) (suc s) (suc s) (omega arith) (omega arith)).eval e d env env' a c).at f g s (omega arith) h;
+  execution = λ self base s b c env env' f g i a h. ((level_follows r l k sound self base (suc s) (suc s) (suc s) (omega arith) (omega arith)).exec b c env env' a i).at f g s (omega arith) h;
+}

@@ -1,9 +1,9 @@
 -- A slot finds values that are alike in environments that are alike.
 use Rattle.std.proofs.Common.{◌≡◌, refl, subst, ℕ, zero, suc, List, [], ◌∷◌, Option, Some, None, slice_get}
 use Rattle.hum_core.specs.declared.slot.Slot.{Slot}
-use Rattle.hum_meaning.specs.Value.{Env, Outside, Bind, Group}
+use Rattle.hum_meaning.specs.Value.{Env, Group}
 use Rattle.hum_core.specs.Numbered.{Code, Numbered, member, newest, past, behind, at_slot}
-use Rattle.hum_core.specs.Alike.{Scope, scope_of, grouped, Both, Each, Reading, MemberAs, Alike, function_as, AlikeEnv, outside_as, bind_as, group_as}
+use Rattle.hum_core.specs.Alike.{Scope, scope_of, Both, Each, Reading, MemberAs, Alike, function_as, AlikeEnv, outside_as, bind_as, group_as}
 
 module _ {E P F Q : Type 0} (r : Reading (Numbered E P) (Numbered F Q)) where
   past_as : {env : Env (Numbered E P)} {env' : Env (Numbered F Q)} → AlikeEnv r env env' → AlikeEnv r (past env) (past env')
@@ -16,7 +16,7 @@ module _ {E P F Q : Type 0} (r : Reading (Numbered E P) (Numbered F Q)) where
   behind_as (suc n) a = behind_as n (past_as a)
 
   each_get : (scope : Scope (Numbered E P)) (env : Env (Numbered E P)) (env' : Env (Numbered F Q)) (all : List (Unit {0} × Code)) (others : List (Unit {0} × Code)) → scope ≡ scope_of (Group all env) → AlikeEnv r (Group all env) (Group others env') →
-    (fs gs : List (Unit {0} × Code)) → Each (MemberAs r scope) fs gs → (k : ℕ) → Both (Alike r) (member (slice_get fs k) (Group all env)) (member (slice_get gs k) (Group others env'))
+      (fs gs : List (Unit {0} × Code)) → Each (MemberAs r scope) fs gs → (k : ℕ) → Both (Alike r) (member (slice_get fs k) (Group all env)) (member (slice_get gs k) (Group others env'))
   each_get scope env env' all others e a [] [] c k = tt
   each_get scope env env' all others e a (f ∷ fs) (g ∷ gs) c zero = function_as (subst (λ s. r.AbstractionAs s f.1 g.1) e c.0) a
   each_get scope env env' all others e a (f ∷ fs) (g ∷ gs) c (suc k) = each_get scope env env' all others e a fs gs c.1 k

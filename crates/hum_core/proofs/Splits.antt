@@ -1,8 +1,8 @@
 -- Tests one after the other: those that take the first values, and then the rest on what is left.
-use Rattle.std.proofs.Common.{◌≡◌, refl, ap, ◌∙◌, ℕ, zero, suc, List, [], ◌∷◌, ◌++◌, length, Some, None}
+use Rattle.std.proofs.Common.{◌≡◌, refl, ap, ℕ, zero, suc, List, [], ◌∷◌, ◌++◌, length, Some, None}
 use Rattle.hum_core.specs.declared.tested.Test.{Test, out-Test}
 use Rattle.hum_core.specs.declared.tested.Test.TheOpen as test
-use Rattle.hum_meaning.specs.Value.{Value, Plain, Pair, Function, Block, Primitive, Env, Entry}
+use Rattle.hum_meaning.specs.Value.{Value, Plain, Pair, Env, Entry}
 use Rattle.hum_meaning.specs.Action.{Action, Effects, Outcome, Gives, Fails, Undecided, and_then, pure}
 use Rattle.hum_meaning.specs.Language.{Evaluator, Matched}
 use Rattle.hum_meaning.specs.Eval.{if_matched, equals}
@@ -34,15 +34,15 @@ module _ (eval : Evaluator Tests) (ts' : List Test) (env : Env Tests) (vs : List
   on m = if_matched m (tests_from eval ts' vs env) (pure None)
 
   go_on : (rest rest' : List (Entry Tests) → Action Tests (Matched Tests)) → ((es : List (Entry Tests)) (e : Effects Tests) (s : ℕ) → rest es e s ≡ and_then (rest' es e s) on) → (o : Outcome Tests (Matched Tests)) →
-    and_then o (λ m. if_matched m rest (pure None)) ≡ and_then (and_then o (λ m. if_matched m rest' (pure None))) on
+      and_then o (λ m. if_matched m rest (pure None)) ≡ and_then (and_then o (λ m. if_matched m rest' (pure None))) on
   go_on rest rest' h (Gives (Some es) e s) = h es e s
   go_on rest rest' h (Gives None e s) = refl
   go_on rest rest' h (Fails c n) = refl
   go_on rest rest' h Undecided = refl
 
   one_split : (l : TestNode) (u : Value Tests) (us : List (Value Tests)) (es : List (Entry Tests)) (rest rest' : Rest) (more : ℕ → Type 0) → more (left_behind l (length us)) →
-    ((us : List (Value Tests)) (es : List (Entry Tests)) → more (length us) → (e : Effects Tests) (s : ℕ) → rest (us ++ vs) es e s ≡ and_then (rest' us es e s) on) →
-    (e : Effects Tests) (s : ℕ) → one_test eval l u (us ++ vs) env es rest e s ≡ and_then (one_test eval l u us env es rest' e s) on
+      ((us : List (Value Tests)) (es : List (Entry Tests)) → more (length us) → (e : Effects Tests) (s : ℕ) → rest (us ++ vs) es e s ≡ and_then (rest' us es e s) on) →
+      (e : Effects Tests) (s : ℕ) → one_test eval l u (us ++ vs) env es rest e s ≡ and_then (one_test eval l u us env es rest' e s) on
   one_split test.Pair (Pair a b) us es rest rest' more c h e s = h (a ∷ b ∷ us) es c e s
   one_split test.Pair _ us es rest rest' more c h e s = refl
   one_split (test.Test::Is k) u us es rest rest' more c h e s = go_on (rest (us ++ vs)) (rest' us) (λ es. h us es c) (equals u (Plain (atom_of k)) es e s)

@@ -1,5 +1,5 @@
 -- The whole reading keeps expressions, bodies and abstractions, whatever the languages are.
-use Rattle.std.proofs.Common.{ℕ, zero, suc, List, [], ◌∷◌, Option, Some, None}
+use Rattle.std.proofs.Common.{ℕ, List, [], ◌∷◌, Option, Some, None}
 use Rattle.hum_meaning.specs.Value.{Parts}
 use Rattle.hum_meaning.specs.Language.{ExprNode, Is, Var, Myself, Abs, BlockOf, Call, Tuple, New, Case, If, StmtNode, Let, Functions, Defined, Send, Create, Become, Throw, Do, Language}
 use Rattle.hum_core.specs.Alike.{Scope, One, grouped, with_marks, Both, Each, Reading, MemberAs, ArmAs, BranchAs, ExprNodeAs, StatementsAs}

@@ -1,5 +1,5 @@
 -- How a written tree stands for a numbered one, and that the two mean the same.
-use Rattle.std.specs.Prelude.{◌≡◌, ℕ, zero, suc, Bool, true, false, if◌then◌else◌, List, [], ◌∷◌, ◌++◌, Option, Some, None}
+use Rattle.std.specs.Prelude.{◌≡◌, ℕ, suc, if◌then◌else◌, List, [], ◌∷◌, ◌++◌, Option, Some, None}
 use Rattle.std.specs.Str.{bytes_eq}
 use Rattle.hum_syntax.specs.declared.tree.Expr.{Expr}
 use Rattle.hum_syntax.specs.declared.tree.Pat.{Pat, out-Pat, fold-Pat}
@@ -9,7 +9,6 @@ use Rattle.hum_syntax.specs.declared.tree.Branch.{Branch}
 use Rattle.hum_syntax.specs.declared.tree.Expr.TheOpen.{Pat-F}
 use Rattle.hum_syntax.specs.declared.tree.Expr.TheOpen as layer
 use Rattle.hum_core.specs.declared.slot.Slot.{Slot}
-use Rattle.hum_core.specs.declared.slot.Const.{Const}
 use Rattle.hum_core.specs.declared.slot.Const.TheVariants as const
 use Rattle.hum_core.specs.declared.resolved.CoreUnit.{CoreUnit}
 use Rattle.hum_core.specs.declared.resolved.CoreExpr.{CoreExpr}
@@ -18,12 +17,10 @@ use Rattle.hum_core.specs.declared.resolved.CoreArm.{CoreArm}
 use Rattle.hum_core.specs.declared.resolved.CoreBranch.{CoreBranch}
 use Rattle.hum_core.specs.declared.resolved.CoreExpr.TheOpen.{CorePat-F}
 use Rattle.hum_core.specs.declared.resolved.CoreExpr.TheOpen as core
-use Rattle.hum_meaning.specs.Value.{Value, Env}
-use Rattle.hum_meaning.specs.Action.{Effects}
 use Rattle.hum_meaning.specs.Named.{Name, Named, written}
 use Rattle.hum_meaning.specs.Written.{humus}
 use Rattle.hum_core.specs.CoreTrees.{Core, core_language}
-use Rattle.hum_core.specs.Alike.{Marked, One, Many, Scope, scope_of, Both, Each, Reading, Alike, AlikeEnv, EffectsAs, OutcomeAs}
+use Rattle.hum_core.specs.Alike.{Marked, One, Many, Scope, Each, Reading}
 use Rattle.hum_core.specs.Reading.{Linking, whole_reading}
 
 -- ---- names
@@ -95,9 +92,10 @@ PatternNodeAs r scope _ _ = ⊥
 
 abbrev pub resolving : Linking (Named written) Core
 resolving = record {
-  ReferenceAs = λ scope x slot. slot_of scope x ≡ Some slot
-  ; marks = names_of
-  ; PatternNodeAs = λ r scope p q. PatternNodeAs r scope (out-Pat p) (out-CorePat q) }
+  ReferenceAs = λ scope x slot. slot_of scope x ≡ Some slot;
+  marks = names_of;
+  PatternNodeAs = λ r scope p q. PatternNodeAs r scope (out-Pat p) (out-CorePat q);
+}
 
 -- ---- whole trees
 

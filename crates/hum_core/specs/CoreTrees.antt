@@ -76,8 +76,9 @@ core_abstraction units (Of k) = core_function (slice_get units k)
 -- the language of these units
 abbrev pub core_language : List CoreUnit → Language Core
 core_language units = record {
-  expr = λ e. core_expr (out-CoreExpr e)
-  ; body = λ k. core_body (slice_get units k)
-  ; abstraction = core_abstraction units
-  ; look = at_slot
-  ; match_node = λ eval matches p. core_match eval matches (out-CorePat p) }
+  expr = λ e. core_expr (out-CoreExpr e);
+  body = λ k. core_body (slice_get units k);
+  abstraction = core_abstraction units;
+  look = at_slot;
+  match_node = λ eval matches p. core_match eval matches (out-CorePat p);
+}

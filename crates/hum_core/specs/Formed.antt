@@ -1,5 +1,5 @@
 -- What every numbered tree keeps.
-use Rattle.std.specs.Prelude.{ℕ, Bool, true, false, ◌&&◌, nat_le, List, length, map, slice_get, Option, Some, None}
+use Rattle.std.specs.Prelude.{ℕ, Bool, true, false, ◌&&◌, nat_le, List, length, map, slice_get, Some, None}
 use Rattle.std.specs.List.{list_all}
 use Rattle.hum_core.specs.declared.resolved.CoreUnit.{CoreUnit}
 use Rattle.hum_core.specs.declared.resolved.CoreUnit.TheVariants as unit

@@ -1,9 +1,7 @@
 -- What is so of the numbered languages.
 use Rattle.std.specs.Prelude.{ℕ, List}
 use Rattle.hum_core.specs.declared.resolved.CoreUnit.{CoreUnit}
-use Rattle.hum_core.specs.declared.resolved.CoreExpr.{CoreExpr}
 use Rattle.hum_core.specs.declared.tested.TestUnit.{TestUnit}
-use Rattle.hum_core.specs.declared.tested.TestExpr.{TestExpr}
 use Rattle.hum_meaning.specs.Value.{Parts, Env}
 use Rattle.hum_meaning.specs.Action.{Effects}
 use Rattle.hum_meaning.specs.Language.{Language}

@@ -3,8 +3,6 @@ use Rattle.std.specs.Prelude.{◌≡◌, ℕ, zero, suc, List, [], ◌∷◌, �
 use Rattle.hum_core.specs.declared.resolved.CoreUnit.{CoreUnit}
 use Rattle.hum_core.specs.declared.resolved.CoreExpr.{CoreExpr}
 use Rattle.hum_core.specs.declared.resolved.CorePat.{CorePat, out-CorePat, fold-CorePat}
-use Rattle.hum_core.specs.declared.resolved.CoreArm.{CoreArm}
-use Rattle.hum_core.specs.declared.resolved.CoreBranch.{CoreBranch}
 use Rattle.hum_core.specs.declared.resolved.CoreExpr.TheOpen.{CorePat-F}
 use Rattle.hum_core.specs.declared.resolved.CoreExpr.TheOpen as core
 use Rattle.hum_core.specs.declared.tested.TestUnit.{TestUnit}
@@ -82,9 +80,10 @@ TestsAs r scope _ _ = ⊥
 
 abbrev pub lowering : Linking Core Tests
 lowering = record {
-  ReferenceAs = λ scope x y. x ≡ y
-  ; marks = marks_of
-  ; PatternNodeAs = λ r scope p ts. TestsAs r scope (out-CorePat p) ts }
+  ReferenceAs = λ scope x y. x ≡ y;
+  marks = marks_of;
+  PatternNodeAs = λ r scope p ts. TestsAs r scope (out-CorePat p) ts;
+}
 
 -- which trees of the first units the second ones stand for
 abbrev pub Lowered : List CoreUnit → List TestUnit → Reading Core Tests

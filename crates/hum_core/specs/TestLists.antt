@@ -95,8 +95,9 @@ test_abstraction units (Of k) = test_function (slice_get units k)
 -- the language of these units
 abbrev pub tests_language : List TestUnit → Language Tests
 tests_language units = record {
-  expr = λ e. test_expr (out-TestExpr e)
-  ; body = λ k. test_body (slice_get units k)
-  ; abstraction = test_abstraction units
-  ; look = at_slot
-  ; match_node = λ eval matches ts v env es. tests_from eval ts (v ∷ []) env es }
+  expr = λ e. test_expr (out-TestExpr e);
+  body = λ k. test_body (slice_get units k);
+  abstraction = test_abstraction units;
+  look = at_slot;
+  match_node = λ eval matches ts v env es. tests_from eval ts (v ∷ []) env es;
+}

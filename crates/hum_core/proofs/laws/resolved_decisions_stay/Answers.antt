@@ -5,5 +5,6 @@ use Rattle.hum_core.proofs.laws.resolved_decisions_stay.Goals as goal
 
 pub returns : goal.returns
 returns c = λ units. record {
-  evaluation = evaluate_stays (core_language units) (core_lawful units)
-  ; execution = execute_stays (core_language units) (core_lawful units) }
+  evaluation = evaluate_stays (core_language units) (core_lawful units);
+  execution = execute_stays (core_language units) (core_lawful units);
+}

@@ -5,5 +5,6 @@ use Rattle.hum_core.proofs.laws.tested_decisions_stay.Goals as goal
 
 pub returns : goal.returns
 returns c = λ units. record {
-  evaluation = evaluate_stays (tests_language units) (tests_lawful units)
-  ; execution = execute_stays (tests_language units) (tests_lawful units) }
+  evaluation = evaluate_stays (tests_language units) (tests_lawful units);
+  execution = execute_stays (tests_language units) (tests_lawful units);
+}
