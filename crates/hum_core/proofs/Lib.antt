@@ -11,3 +11,4 @@ pub mod Splits
 pub mod Slots
 pub mod Marks
 pub mod Lowered
+mod Examples

@@ -6,4 +6,6 @@ pub mod Alike
 pub mod Reading
 pub mod Agreement
 pub mod Lowering
+pub mod Lists
+pub mod Units
 pub mod Laws

@@ -1,5 +1,5 @@
 -- Each part of a pattern spends a step before it goes below.
-use Rattle.std.proofs.Common.{ℕ, pred, ◌≤◌, List, [], ◌∷◌, Some, None, arith}
+use Rattle.std.proofs.Common.{ℕ, pred, List, [], ◌∷◌, Some, None, arith}
 use Rattle.hum_meaning.specs.Value.{Parts, Atom, Value, Plain, Env, Entry}
 use Rattle.hum_meaning.specs.Language.{Meaning}
 use Rattle.hum_meaning.specs.Pattern.{Match, match_any, match_bind, match_atom, match_value, match_pair, match_items, match_tuple}
@@ -27,7 +27,7 @@ module _ {L : Parts} (d : ℕ) (m m' : Meaning L) (h : Stands (pred d) m m') whe
   pair_agrees : (p : L.Pattern) (r r' : Match L) → MatchesAgree (pred d) r r' → MatchesAgree d (match_pair m.matches p r) (match_pair m'.matches p r')
   pair_agrees p r r' k v env es =
       step_agrees d (if_pair_agrees (pred d) v _ _ (λ head tail. bind_agrees (pred d) (h.matches p head env es)
-        (λ o. if_matched_agrees (pred d) o _ _ _ _ (λ es. k tail env es) (pure_agrees (pred d) None))))
+      (λ o. if_matched_agrees (pred d) o _ _ _ _ (λ es. k tail env es) (pure_agrees (pred d) None))))
 
   items_agree : (p q : L.Pattern) (more : List L.Pattern) → MatchesAgree d (match_items m.matches p q more) (match_items m'.matches p q more)
   items_agree p q [] = pair_agrees p _ _ (h.matches q)
