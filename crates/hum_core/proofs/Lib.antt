@@ -11,4 +11,6 @@ pub mod Splits
 pub mod Slots
 pub mod Marks
 pub mod Lowered
+pub mod Texts
+pub mod Delivered
 mod Examples

@@ -12,6 +12,7 @@ use Rattle.hum_core.specs.TestLists.{tests_language}
 use Rattle.hum_meaning.specs.Written.{humus}
 use Rattle.hum_core.specs.Reading.{MeanAlike}
 use Rattle.hum_core.specs.Agreement.{Resolution}
+use Rattle.hum_core.specs.Configurations.{DeliverAlike}
 use Rattle.hum_core.specs.Lowering.{Lowered}
 
 -- what s steps decide of an expression or a body, s + j steps decide so, with j more steps left
@@ -25,10 +26,18 @@ ResolvedDecisionsStay = (units : List CoreUnit) → DecisionsStay (core_language
 abbrev pub TestedDecisionsStay : Type 0
 TestedDecisionsStay = (units : List TestUnit) → DecisionsStay (tests_language units)
 
--- a written tree means what the numbered one does that it stands for
-abbrev pub ResolvedTreesMeanTheSame : Type 0
-ResolvedTreesMeanTheSame = (units : List CoreUnit) → MeanAlike (Resolution units) humus (core_language units)
+-- a written tree means what the numbered one does that it stands for, and so do deliveries
+pub record ResolvedMeansTheSame (units : List CoreUnit) : Type 0 where
+  pub trees : MeanAlike (Resolution units) humus (core_language units)
+  pub deliveries : DeliverAlike (Resolution units) humus (core_language units)
 
--- patterns as trees mean what their tests do
+abbrev pub ResolvedTreesMeanTheSame : Type 0
+ResolvedTreesMeanTheSame = (units : List CoreUnit) → ResolvedMeansTheSame units
+
+-- patterns as trees mean what their tests do, and so do deliveries
+pub record LoweredMeansTheSame (units : List CoreUnit) (tested : List TestUnit) : Type 0 where
+  pub trees : MeanAlike (Lowered units tested) (core_language units) (tests_language tested)
+  pub deliveries : DeliverAlike (Lowered units tested) (core_language units) (tests_language tested)
+
 abbrev pub LoweredTreesMeanTheSame : Type 0
-LoweredTreesMeanTheSame = (units : List CoreUnit) (tested : List TestUnit) → MeanAlike (Lowered units tested) (core_language units) (tests_language tested)
+LoweredTreesMeanTheSame = (units : List CoreUnit) (tested : List TestUnit) → LoweredMeansTheSame units tested

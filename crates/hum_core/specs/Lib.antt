@@ -5,6 +5,7 @@ pub mod TestLists
 pub mod Alike
 pub mod Reading
 pub mod Agreement
+pub mod Configurations
 pub mod Lowering
 pub mod Lists
 pub mod Units
