@@ -1,8 +1,9 @@
 -- What is so of every program: what some steps decide does not depend on how many there are.
-use Rattle.std.specs.Prelude.{◌≡◌, ℕ, ◌+◌, ◌<◌, List}
+use Rattle.std.specs.Prelude.{◌≡◌, ℕ, ◌+◌, ◌<◌, length, List}
 use Rattle.hum_syntax.specs.declared.tree.Expr.{Expr}
 use Rattle.hum_syntax.specs.declared.tree.Pat.{Pat}
 use Rattle.hum_syntax.specs.declared.tree.Stmt.{Stmt}
+use Rattle.hum_syntax.specs.Names.{names_of}
 use Rattle.hum_meaning.specs.Value.{Parts, Value, Env}
 use Rattle.hum_meaning.specs.Action.{Effects, Outcome, Gives, Fails, Undecided}
 use Rattle.hum_meaning.specs.Meaning.{level, evaluate, match, execute}
@@ -10,6 +11,7 @@ use Rattle.hum_meaning.specs.Named.{Named, written}
 use Rattle.hum_meaning.specs.Written.{humus}
 use Rattle.hum_meaning.specs.Deliver.{Message, Configuration, Delivery, Committed, Failed, Open, deliver}
 use Rattle.hum_meaning.specs.After.{Entry, After}
+use Rattle.hum_meaning.specs.Scope.{verdicts}
 
 -- ---- decisions
 
@@ -60,3 +62,9 @@ DeliveriesStay =
 -- a journal leads to one configuration at most
 abbrev pub JournalsDecide : Type 0
 JournalsDecide = (file : List Stmt) (journal : List Entry) (c d : Configuration (Named written)) → After file journal c → After file journal d → c ≡ d
+
+-- ---- names
+
+-- each name of a file has a verdict, so a verdict's place is the number of names before its own
+abbrev pub EachNameIsJudged : Type 0
+EachNameIsJudged = (file : List Stmt) → length (verdicts file) ≡ length (names_of file)

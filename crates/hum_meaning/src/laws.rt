@@ -1,6 +1,6 @@
 // What is so of every program.
 
-ghost use Rattle.hum_meaning.specs.Laws.{EvaluationStays, MatchingStays, ExecutionStays, DepthIsEnough, DeliveriesStay, JournalsDecide};
+ghost use Rattle.hum_meaning.specs.Laws.{EvaluationStays, MatchingStays, ExecutionStays, DepthIsEnough, DeliveriesStay, JournalsDecide, EachNameIsJudged};
 
 /// What s steps decide of an expression, s + j steps decide so, with j more steps left.
 pub fn evaluation_stays()
@@ -30,4 +30,9 @@ pub fn deliveries_stay()
 /// From the opening configuration of a file a journal leads to one configuration at most.
 pub fn journals_decide()
     ensures { JournalsDecide }
+{}
+
+/// The scope rule has one verdict for each name of a file, in the order in which they are spelled.
+pub fn each_name_is_judged()
+    ensures { EachNameIsJudged }
 {}

@@ -8,7 +8,7 @@
 //!
 //! The laws are functions without a body. What some number of steps decides, every larger one decides so: `evaluation_stays`,
 //! `matching_stays`, `execution_stays` and `deliveries_stay`. So a journal leads to one configuration at most: `journals_decide`. And the
-//! depth to which the definitions go decides nothing: `depth_is_enough`.
+//! depth to which the definitions go decides nothing: `depth_is_enough`. The scope rule (`Scope`) judges each name once: `each_name_is_judged`.
 //!
 //! Programs that are worked out by computation stand in `proofs/Examples.antt`.
 #![tactic(auto)]
@@ -18,7 +18,7 @@ mod laws;
 
 pub use cause::ScopeCause;
 pub use laws::{
-    deliveries_stay, depth_is_enough, evaluation_stays, execution_stays, journals_decide,
+    deliveries_stay, depth_is_enough, each_name_is_judged, evaluation_stays, execution_stays, journals_decide,
     matching_stays,
 };
 

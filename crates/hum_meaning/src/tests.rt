@@ -1,7 +1,7 @@
 // Each law once: it has nothing to do.
 
 use crate::{
-    deliveries_stay, depth_is_enough, evaluation_stays, execution_stays, journals_decide,
+    deliveries_stay, depth_is_enough, each_name_is_judged, evaluation_stays, execution_stays, journals_decide,
     matching_stays,
 };
 
@@ -13,4 +13,5 @@ fn laws_have_no_body(_rt: HostRuntime) {
     depth_is_enough();
     deliveries_stay();
     journals_decide();
+    each_name_is_judged();
 }
