@@ -9,7 +9,8 @@ use Rattle.hum_meaning.specs.BuiltIns.{built_in, on_pair, on_numbers, on_truths,
 use Rattle.hum_core.specs.Alike.{Both, Each, Reading, ConstantAs, Alike, plain_as, pair_as, SentAs, EffectsAs, OutcomeAs}
 use Rattle.hum_core.proofs.Following.{ActsAs}
 
-each_end : {A B : Type 0} (R : A → B → Type 0) (xs : List A) (ys : List B) (a : A) (b : B) → Each R xs ys → R a b → Each R (xs ++ a ∷ []) (ys ++ b ∷ [])
+each_end : {A B : Type 0} (R : A → B → Type 0) (xs : List A) (ys : List B) (a : A) (b : B) → Each R xs ys → R a b
+    → Each R (xs ++ a ∷ []) (ys ++ b ∷ [])
 each_end R [] [] a b h k = (k, tt)
 each_end R (x ∷ xs) (y ∷ ys) a b h k = (h.0, each_end R xs ys a b h.1 k)
 each_end R [] (y ∷ ys) a b h k = absurd h
@@ -24,7 +25,8 @@ each_length R (x ∷ xs) [] h = absurd h
 -- ---- steps
 
 module _ {L K : Parts} (r : Reading L K) where
-  sooner_as : {A B : Type 0} (R : A → B → Type 0) (s t : ℕ) → t ≤ s → (o : Outcome L A) (o' : Outcome K B) → OutcomeAs r t R o o' → OutcomeAs r s R o o'
+  sooner_as : {A B : Type 0} (R : A → B → Type 0) (s t : ℕ) → t ≤ s → (o : Outcome L A) (o' : Outcome K B) → OutcomeAs r t R o o'
+      → OutcomeAs r s R o o'
   sooner_as R s t le (Gives a e u) (Gives b d w) h = (h.0, h.1, h.2, omega (arith, le, h.3))
   sooner_as R s t le (Fails c n) (Fails d m) h = h
   sooner_as R s t le Undecided Undecided h = tt
@@ -36,7 +38,8 @@ module _ {L K : Parts} (r : Reading L K) where
   sooner_as R s t le Undecided (Fails d m) h = absurd h
 
   module _ {A B : Type 0} (b : ℕ) (R : A → B → Type 0) where
-    spent_as : (p : Action L A) (q : Action K B) → ActsAs r b R p q → (e : Effects L) (d : Effects K) (s : ℕ) → s < suc b → EffectsAs r e d → OutcomeAs r s R (and_then (spend e s) (λ _. p)) (and_then (spend d s) (λ _. q))
+    spent_as : (p : Action L A) (q : Action K B) → ActsAs r b R p q → (e : Effects L) (d : Effects K) (s : ℕ) → s < suc b → EffectsAs r e d
+        → OutcomeAs r s R (and_then (spend e s) (λ _. p)) (and_then (spend d s) (λ _. q))
     spent_as p q h e d zero lt k = tt
     spent_as p q h e d (suc s) lt k = sooner_as R (suc s) s (omega arith) (p e s) (q d s) (h.at e d s (omega (arith, lt)) k)
 
@@ -47,14 +50,16 @@ module _ {L K : Parts} (r : Reading L K) where
     pub fewer : (c : ℕ) (p : Action L A) (q : Action K B) → b ≤ c → ActsAs r c R p q → ActsAs r b R p q
     fewer c p q le h = record { at = λ e d s lt k. h.at e d s (omega (arith, lt, le)) k }
 
-  pub step_keeps : {A B : Type 0} (b : ℕ) (R : A → B → Type 0) (p : Action L A) (q : Action K B) → ActsAs r b R p q → ActsAs r b R (step >> p) (step >> q)
+  pub step_keeps : {A B : Type 0} (b : ℕ) (R : A → B → Type 0) (p : Action L A) (q : Action K B) → ActsAs r b R p q
+      → ActsAs r b R (step >> p) (step >> q)
   step_keeps b R p q h = fewer b R (suc b) _ _ (omega arith) (step_as b R p q h)
 
 -- ---- one after the other
 
 module _ {L K : Parts} (r : Reading L K) (b' : ℕ) where
   module _ {A B C D : Type 0} (R : A → B → Type 0) (S : C → D → Type 0) (f : A → Action L C) (g : B → Action K D) (k : (a : A) (b : B) → R a b → ActsAs r b' S (f a) (g b)) where
-    then_as : (s : ℕ) → s < b' → (o : Outcome L A) (o' : Outcome K B) → OutcomeAs r s R o o' → OutcomeAs r s S (and_then o f) (and_then o' g)
+    then_as : (s : ℕ) → s < b' → (o : Outcome L A) (o' : Outcome K B) → OutcomeAs r s R o o'
+        → OutcomeAs r s S (and_then o f) (and_then o' g)
     then_as s lt (Gives a e t) (Gives b d u) h = subst (λ u. OutcomeAs r s S (f a e t) (g b d u)) h.2 (sooner_as r S s t h.3 (f a e t) (g b d t) ((k a b h.0).at e d t (omega (arith, lt, h.3)) h.1))
     then_as s lt (Fails c n) (Fails d m) h = h
     then_as s lt Undecided Undecided h = tt
@@ -82,7 +87,8 @@ module _ {L K : Parts} (r : Reading L K) (b' : ℕ) where
   pub send_as : (n : ℕ) (v : Value L) (w : Value K) → Alike r v w → ActsAs r b' (λ a b. Unit {0}) (send n v) (send n w)
   send_as n v w h = record { at = λ e d s lt k. (tt, record { created_as = k.created_as; sent_as = each_end (SentAs r) e.sent d.sent (n, v) (n, w) k.sent_as (refl, h); next_as = k.next_as }, refl, omega arith) }
 
-  becoming_as : (o : Option (Value L)) (o' : Option (Value K)) (v : Value L) (w : Value K) → Both (Alike r) o o' → Alike r v w → ActsAs r b' (λ a b. Unit {0}) (becoming o v) (becoming o' w)
+  becoming_as : (o : Option (Value L)) (o' : Option (Value K)) (v : Value L) (w : Value K) → Both (Alike r) o o' → Alike r v w
+      → ActsAs r b' (λ a b. Unit {0}) (becoming o v) (becoming o' w)
   becoming_as None None v w b h = record { at = λ e d s lt k. (tt, record { created_as = k.created_as; sent_as = k.sent_as; next_as = h }, refl, omega arith) }
   becoming_as (Some a) (Some c) v w b h = fail_as (λ a b. Unit {0}) second_become
   becoming_as None (Some c) v w b h = absurd b
@@ -98,7 +104,8 @@ module _ {L K : Parts} (r : Reading L K) (b' : ℕ) where
   constant_as (Pair a b) (Pair c d) h = pair_as (constant_as a c h.0) (constant_as b d h.1)
   constant_as _ _ h = absurd h
 
-  heads_as : (b : Bool) (p : Action L Bool) (q : Action K Bool) → ActsAs r b' (λ a b. a ≡ b) p q → ActsAs r b' (λ a b. a ≡ b) (if b then p else pure false) (if b then q else pure false)
+  heads_as : (b : Bool) (p : Action L Bool) (q : Action K Bool) → ActsAs r b' (λ a b. a ≡ b) p q
+      → ActsAs r b' (λ a b. a ≡ b) (if b then p else pure false) (if b then q else pure false)
   heads_as true p q h = h
   heads_as false p q h = pure_as (λ a b. a ≡ b) false false refl
 
@@ -111,15 +118,19 @@ module _ {L K : Parts} (r : Reading L K) (b' : ℕ) where
 
   -- ---- the built-in functions
 
-  on_pair_as : (f : Value L → Value L → Action L (Value L)) (g : Value K → Value K → Action K (Value K)) → ((a b : Value L) (c d : Value K) → Alike r a c → Alike r b d → ActsAs r b' (Alike r) (f a b) (g c d)) → {v : Value L} {w : Value K} → Alike r v w → ActsAs r b' (Alike r) (on_pair f v) (on_pair g w)
+  on_pair_as : (f : Value L → Value L → Action L (Value L)) (g : Value K → Value K → Action K (Value K))
+      → ((a b : Value L) (c d : Value K) → Alike r a c → Alike r b d → ActsAs r b' (Alike r) (f a b) (g c d)) → {v : Value L} {w : Value K}
+      → Alike r v w → ActsAs r b' (Alike r) (on_pair f v) (on_pair g w)
   on_pair_as f g k (pair_as {a = a} {b = b} {c = c} {d = d} h h') = k a b c d h h'
   on_pair_as f g k _ = fail_as (Alike r) no_match
 
-  on_numbers_as : (f : ℤ → ℤ → Atom) → {v x : Value L} {w y : Value K} → Alike r v w → Alike r x y → ActsAs r b' (Alike r) (on_numbers (λ a b. Plain (f a b)) v x) (on_numbers (λ a b. Plain (f a b)) w y)
+  on_numbers_as : (f : ℤ → ℤ → Atom) → {v x : Value L} {w y : Value K} → Alike r v w → Alike r x y
+      → ActsAs r b' (Alike r) (on_numbers (λ a b. Plain (f a b)) v x) (on_numbers (λ a b. Plain (f a b)) w y)
   on_numbers_as f (plain_as (Number a)) (plain_as (Number b)) = pure_as (Alike r) _ _ (plain_as (f a b))
   on_numbers_as f _ _ = fail_as (Alike r) not_a_number
 
-  on_truths_as : (f : Bool → Bool → Bool) → {v x : Value L} {w y : Value K} → Alike r v w → Alike r x y → ActsAs r b' (Alike r) (on_truths f v x) (on_truths f w y)
+  on_truths_as : (f : Bool → Bool → Bool) → {v x : Value L} {w y : Value K} → Alike r v w → Alike r x y
+      → ActsAs r b' (Alike r) (on_truths f v x) (on_truths f w y)
   on_truths_as f (plain_as (Truth a)) (plain_as (Truth b)) = pure_as (Alike r) _ _ (plain_as (Truth (f a b)))
   on_truths_as f _ _ = fail_as (Alike r) not_a_truth_value
 
@@ -133,10 +144,12 @@ module _ {L K : Parts} (r : Reading L K) (b' : ℕ) where
   equality_as : {v x : Value L} {w y : Value K} → Alike r v w → Alike r x y → ActsAs r b' (Alike r) (equality v x) (equality w y)
   equality_as h k = bind_as' _ _ _ _ (λ a b e. pure_as (Alike r) _ _ (truth_of a b e)) _ _ (same_as h k)
 
-  numbers_as : (f : ℤ → ℤ → Atom) {v : Value L} {w : Value K} → Alike r v w → ActsAs r b' (Alike r) (on_pair (on_numbers (λ a b. Plain (f a b))) v) (on_pair (on_numbers (λ a b. Plain (f a b))) w)
+  numbers_as : (f : ℤ → ℤ → Atom) {v : Value L} {w : Value K} → Alike r v w
+      → ActsAs r b' (Alike r) (on_pair (on_numbers (λ a b. Plain (f a b))) v) (on_pair (on_numbers (λ a b. Plain (f a b))) w)
   numbers_as f h = on_pair_as _ _ (λ _ _ _ _ i j. on_numbers_as f i j) h
 
-  truths_as : (f : Bool → Bool → Bool) {v : Value L} {w : Value K} → Alike r v w → ActsAs r b' (Alike r) (on_pair (on_truths f) v) (on_pair (on_truths f) w)
+  truths_as : (f : Bool → Bool → Bool) {v : Value L} {w : Value K} → Alike r v w
+      → ActsAs r b' (Alike r) (on_pair (on_truths f) v) (on_pair (on_truths f) w)
   truths_as f h = on_pair_as _ _ (λ _ _ _ _ i j. on_truths_as f i j) h
 
   pub built_in_as : (b : BuiltIn) {v : Value L} {w : Value K} → Alike r v w → ActsAs r b' (Alike r) (built_in b v) (built_in b w)

@@ -29,7 +29,8 @@ module _ (units : List CoreUnit) where
   abbrev to : ℕ → Reading (Named written) Core
   to = reading_to humus (core_language units) resolving
 
-  pattern_all : (scope : Scope (Named written)) (p : WrittenPat) (q : NumberedPat) → ((n : ℕ) → PatternNodeAs (to n) scope p q) → PatternNodeAs R scope p q
+  pattern_all : (scope : Scope (Named written)) (p : WrittenPat) (q : NumberedPat) → ((n : ℕ) → PatternNodeAs (to n) scope p q)
+      → PatternNodeAs R scope p q
   pattern_all scope (layer.Value e) (core.Value d) h = h
   pattern_all scope (layer.Pat::Tuple ps) (core.CorePat::Tuple qs) h = each_all _ _ (λ p q i. i) ps qs h
   pattern_all scope layer.Any core.Any h = tt
@@ -50,7 +51,9 @@ module _ (units : List CoreUnit) where
     constant_as : (x : Atom) (c d : Const) → c ≡ d → x ≡ atom_of d → x ≡ atom_of c
     constant_as x c d e k = k ∙ ap atom_of (sym e)
 
-    node_as : (p : WrittenPat) (q : NumberedPat) → PatternNodeAs R (scope_of env) p q → (v : Value (Named written)) (w : Value Core) (es : List (Entry (Named written))) (ds : List (Entry Core)) → Alike R v w → Bound R es ds →
+    node_as : (p : WrittenPat) (q : NumberedPat) → PatternNodeAs R (scope_of env) p q
+        → (v : Value (Named written)) (w : Value Core) (es : List (Entry (Named written))) (ds : List (Entry Core)) → Alike R v w
+        → Bound R es ds →
         ActsAs R (suc b) (Both (EntriesAs R (names_here p ++ marks_of R es))) (match_tree written m.eval m.matches p v env es) (core_match m'.eval m'.matches q w env' ds)
     node_as layer.Any core.Any c v w es ds i j = any_as R b v w env env' es ds j
     node_as (layer.Bind x) core.Bind c v w es ds i j = bind_mark_as R b x tt v w env env' es ds i j

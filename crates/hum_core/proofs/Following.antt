@@ -25,7 +25,8 @@ module _ {L K : Parts} (r : Reading L K) where
   pub record Follows (b : ℕ) (m : Meaning L) (m' : Meaning K) : Type 0 where
     pub eval : (e : L.Expr) (d : K.Expr) (env : Env L) (env' : Env K) → AlikeEnv r env env' → r.ExprAs (scope_of env) e d
         → ActsAs b (Alike r) (m.eval e env) (m'.eval d env')
-    pub matches : (p : L.Pattern) (q : K.Pattern) (v : Value L) (w : Value K) (env : Env L) (env' : Env K) (es : List (Entry L)) (ds : List (Entry K))
+    pub matches : (p : L.Pattern) (q : K.Pattern) (v : Value L) (w : Value K) (env : Env L) (env' : Env K) (es : List (Entry L))
+        (ds : List (Entry K))
         → AlikeEnv r env env' → r.PatternAs (scope_of env) p q → Alike r v w → Bound es ds
         → ActsAs b (Both (EntriesAs (r.marks p ++ marks_of es))) (m.matches p v env es) (m'.matches q w env' ds)
     pub exec : (c : L.Body) (d : K.Body) (env : Env L) (env' : Env K) → AlikeEnv r env env' → r.BodyAs (scope_of env) c d
@@ -35,9 +36,12 @@ module _ {L K : Parts} (r : Reading L K) where
 pub record Sound {L K : Parts} (r : Reading L K) (l : Language L) (k : Language K) : Type 0 where
   pub expr : (scope : Scope L) (e : L.Expr) (d : K.Expr) → r.ExprAs scope e d → ExprNodeAs r scope (l.expr e) (k.expr d)
   pub body : (scope : Scope L) (b : L.Body) (c : K.Body) → r.BodyAs scope b c → StatementsAs r scope (l.body b) (k.body c)
-  pub abstraction : (scope : Scope L) (f : L.Abstraction) (g : K.Abstraction) → r.AbstractionAs scope f g → Both (ArmAs r scope) (l.abstraction f) (k.abstraction g)
-  pub look : (env : Env L) (env' : Env K) (x : L.Reference) (y : K.Reference) → AlikeEnv r env env' → r.ReferenceAs (scope_of env) x y → Both (Alike r) (l.look env x) (k.look env' y)
-  pub matching : (self base b : ℕ) → ((n n' : ℕ) → b ≤ n → b ≤ n' → Follows r b (level l self base n) (level k self base n')) → (n n' : ℕ) → b ≤ n → b ≤ n'
+  pub abstraction : (scope : Scope L) (f : L.Abstraction) (g : K.Abstraction) → r.AbstractionAs scope f g
+      → Both (ArmAs r scope) (l.abstraction f) (k.abstraction g)
+  pub look : (env : Env L) (env' : Env K) (x : L.Reference) (y : K.Reference) → AlikeEnv r env env' → r.ReferenceAs (scope_of env) x y
+      → Both (Alike r) (l.look env x) (k.look env' y)
+  pub matching : (self base b : ℕ) → ((n n' : ℕ) → b ≤ n → b ≤ n' → Follows r b (level l self base n) (level k self base n')) → (n n' : ℕ)
+      → b ≤ n → b ≤ n'
       → (p : L.Pattern) (q : K.Pattern) (v : Value L) (w : Value K) (env : Env L) (env' : Env K) (es : List (Entry L)) (ds : List (Entry K))
       → AlikeEnv r env env' → r.PatternAs (scope_of env) p q → Alike r v w → Bound r es ds
       → ActsAs r (suc b) (Both (EntriesAs r (r.marks p ++ marks_of r es)))

@@ -26,7 +26,8 @@ use Rattle.hum_core.specs.TestLists.{Tests, Rest, one_test, tests_from, tests_la
 -- ---- patterns as trees
 
 module _ (d : ℕ) (m m' : Meaning Core) (h : Stands (pred d) m m') where
-  match_agrees : (p : CorePat-F CoreExpr CorePat CoreArm CoreBranch) → MatchesAgree d (core_match m.eval m.matches p) (core_match m'.eval m'.matches p)
+  match_agrees : (p : CorePat-F CoreExpr CorePat CoreArm CoreBranch) → MatchesAgree d (core_match m.eval m.matches p)
+      (core_match m'.eval m'.matches p)
   match_agrees core.Any = any_agrees d
   match_agrees core.Bind = bind_mark_agrees d tt
   match_agrees (core.CorePat::Is c) = atom_agrees d (atom_of c)
@@ -39,20 +40,24 @@ core_lawful units = record { matching = λ d m m' h p v env es. match_agrees d m
 -- ---- patterns as tests
 
 module _ (d : ℕ) (m m' : Meaning Tests) (h : Stands d m m') where
-  test_agrees : (t : Test-F Test TestExpr TestArm TestBranch) (v : Value Tests) (vs : List (Value Tests)) (env : Env Tests) (es : List (Entry Tests)) (r r' : Rest) → ((vs : List (Value Tests)) (es : List (Entry Tests)) → Agrees d (r vs es) (r' vs es)) → Agrees d (one_test m.eval t v vs env es r) (one_test m'.eval t v vs env es r')
+  test_agrees : (t : Test-F Test TestExpr TestArm TestBranch) (v : Value Tests) (vs : List (Value Tests)) (env : Env Tests)
+      (es : List (Entry Tests)) (r r' : Rest) → ((vs : List (Value Tests)) (es : List (Entry Tests)) → Agrees d (r vs es) (r' vs es))
+      → Agrees d (one_test m.eval t v vs env es r) (one_test m'.eval t v vs env es r')
   test_agrees layer.Pair v vs env es r r' k = if_pair_agrees d v _ _ (λ a b. k (a ∷ b ∷ vs) es)
   test_agrees (layer.Test::Is c) v vs env es r r' k = bind_agrees d (equals_agrees d v (Plain (atom_of c)) es) (λ o. if_matched_agrees d o _ _ _ _ (k vs) (pure_agrees d None))
   test_agrees (layer.Same e) v vs env es r r' k = bind_agrees d (bind_agrees d (h.eval e env) (λ w. equals_agrees d v w es)) (λ o. if_matched_agrees d o _ _ _ _ (k vs) (pure_agrees d None))
   test_agrees layer.Bind v vs env es r r' k = k vs ((tt, v) ∷ es)
   test_agrees layer.Skip v vs env es r r' k = k vs es
 
-  tests_agree : (ts : List Test) (vs : List (Value Tests)) (env : Env Tests) (es : List (Entry Tests)) → Agrees d (tests_from m.eval ts vs env es) (tests_from m'.eval ts vs env es)
+  tests_agree : (ts : List Test) (vs : List (Value Tests)) (env : Env Tests) (es : List (Entry Tests))
+      → Agrees d (tests_from m.eval ts vs env es) (tests_from m'.eval ts vs env es)
   tests_agree [] vs env es = pure_agrees d (Some es)
   tests_agree (t ∷ ts) [] env es = pure_agrees d None
   tests_agree (t ∷ ts) (v ∷ vs) env es = step_keeps d (test_agrees (out-Test t) v vs env es _ _ (λ vs es. tests_agree ts vs env es))
 
 module _ (d : ℕ) (m m' : Meaning Tests) (h : Stands (pred d) m m') where
-  all_tests_agree : (ts : List Test) (vs : List (Value Tests)) (env : Env Tests) (es : List (Entry Tests)) → Agrees d (tests_from m.eval ts vs env es) (tests_from m'.eval ts vs env es)
+  all_tests_agree : (ts : List Test) (vs : List (Value Tests)) (env : Env Tests) (es : List (Entry Tests))
+      → Agrees d (tests_from m.eval ts vs env es) (tests_from m'.eval ts vs env es)
   all_tests_agree [] vs env es = pure_agrees d (Some es)
   all_tests_agree (t ∷ ts) [] env es = pure_agrees d None
   all_tests_agree (t ∷ ts) (v ∷ vs) env es = step_agrees d (test_agrees (pred d) m m' h (out-Test t) v vs env es _ _ (λ vs es. tests_agree (pred d) m m' h ts vs env es))

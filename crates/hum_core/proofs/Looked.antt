@@ -28,11 +28,14 @@ module _ (r : Reading (Named written) Core) where
   abbrev AllFound : Option (Value (Named written)) → Env Core → Option Slot → Type 0
   AllFound found env o = (z : Slot) → o ≡ Some z → FoundAs found env z
 
-  further_found : (n : Unit {0}) (w : Value Core) (env' : Env Core) (found : Option (Value (Named written))) (o : Option Slot) (y : Slot) → AllFound found env' o → further o ≡ Some y → FoundAs found (Bind n w env') y
+  further_found : (n : Unit {0}) (w : Value Core) (env' : Env Core) (found : Option (Value (Named written))) (o : Option Slot) (y : Slot)
+      → AllFound found env' o → further o ≡ Some y → FoundAs found (Bind n w env') y
   further_found n w env' found None y k e = absurd (cc)
   further_found n w env' found (Some z) y k e = subst (FoundAs found (Bind n w env')) (same_slot _ _ e) (k z refl)
 
-  bind_found : (n : Unit {0}) (v : Value (Named written)) (w : Value Core) (env' : Env Core) (found : Option (Value (Named written))) (o : Option Slot) (y : Slot) → Alike r v w → AllFound found env' o → (b : Bool) → (if b then Some newest else further o) ≡ Some y → FoundAs (if b then Some v else found) (Bind n w env') y
+  bind_found : (n : Unit {0}) (v : Value (Named written)) (w : Value Core) (env' : Env Core) (found : Option (Value (Named written)))
+      (o : Option Slot) (y : Slot) → Alike r v w → AllFound found env' o → (b : Bool) → (if b then Some newest else further o) ≡ Some y
+      → FoundAs (if b then Some v else found) (Bind n w env') y
   bind_found n v w env' found o y a k true e = subst (FoundAs (Some v) (Bind n w env')) (same_slot newest y e) a
   bind_found n v w env' found o y a k false e = further_found n w env' found o y k e
 
@@ -41,28 +44,36 @@ module _ (r : Reading (Named written) Core) where
   InGroup scope d gs None = d ≡ None
   InGroup scope d gs (Some k) = (f : Lambda written) × (g : Unit {0} × Code) × (d ≡ Some f) × (slice_get gs k ≡ Some g) × r.AbstractionAs scope f g.1
 
-  one_on : (scope : Scope (Named written)) (d : Option (Lambda written)) (g : Unit {0} × Code) (gs : List (Unit {0} × Code)) (o : Option ℕ) → InGroup scope d gs o → InGroup scope d (g ∷ gs) (next_place o)
+  one_on : (scope : Scope (Named written)) (d : Option (Lambda written)) (g : Unit {0} × Code) (gs : List (Unit {0} × Code)) (o : Option ℕ)
+      → InGroup scope d gs o → InGroup scope d (g ∷ gs) (next_place o)
   unfolding InGroup
   one_on scope d g gs None h = h
   one_on scope d g gs (Some k) h = (h.0, h.1, h.2, h.3, h.4)
 
-  first_or : (scope : Scope (Named written)) (f : Lambda written) (d : Option (Lambda written)) (g : Unit {0} × Code) (gs : List (Unit {0} × Code)) (o : Option ℕ) → r.AbstractionAs scope f g.1 → InGroup scope d gs o → (b : Bool) → InGroup scope (if b then Some f else d) (g ∷ gs) (if b then Some 0 else next_place o)
+  first_or : (scope : Scope (Named written)) (f : Lambda written) (d : Option (Lambda written)) (g : Unit {0} × Code)
+      (gs : List (Unit {0} × Code)) (o : Option ℕ) → r.AbstractionAs scope f g.1 → InGroup scope d gs o → (b : Bool)
+      → InGroup scope (if b then Some f else d) (g ∷ gs) (if b then Some 0 else next_place o)
   unfolding InGroup
   first_or scope f d g gs o c h true = (f, g, refl, refl, c)
   first_or scope f d g gs o c h false = one_on scope d g gs o h
 
-  in_group_of : (scope : Scope (Named written)) (fs : List (Name × Lambda written)) (gs : List (Unit {0} × Code)) (x : Name) → Each (MemberAs r scope) fs gs → InGroup scope (definition written fs x) gs (place (map (λ f. f.0) fs) x)
+  in_group_of : (scope : Scope (Named written)) (fs : List (Name × Lambda written)) (gs : List (Unit {0} × Code)) (x : Name)
+      → Each (MemberAs r scope) fs gs → InGroup scope (definition written fs x) gs (place (map (λ f. f.0) fs) x)
   unfolding InGroup
   in_group_of scope [] [] x c = refl
   in_group_of scope (f ∷ fs) (g ∷ gs) x c = first_or scope f.1 (definition written fs x) g gs (place (map (λ f. f.0) fs) x) c.0 (in_group_of scope fs gs x c.1) (bytes_eq f.0 x)
   in_group_of scope [] (g ∷ gs) x c = absurd c
   in_group_of scope (f ∷ fs) [] x c = absurd c
 
-  group_further : (gs : List (Unit {0} × Code)) (env' : Env Core) (found : Option (Value (Named written))) (o : Option Slot) (y : Slot) → AllFound found env' o → further o ≡ Some y → FoundAs found (Group gs env') y
+  group_further : (gs : List (Unit {0} × Code)) (env' : Env Core) (found : Option (Value (Named written))) (o : Option Slot) (y : Slot)
+      → AllFound found env' o → further o ≡ Some y → FoundAs found (Group gs env') y
   group_further gs env' found None y k e = absurd (cc)
   group_further gs env' found (Some z) y k e = subst (FoundAs found (Group gs env')) (same_slot _ _ e) (k z refl)
 
-  member_found : (fs : List (Name × Lambda written)) (gs : List (Unit {0} × Code)) (env : Env (Named written)) (env' : Env Core) (found : Option (Value (Named written))) (later : Option Slot) (y : Slot) → AlikeEnv r (Group fs env) (Group gs env') → AllFound found env' later → (d : Option (Lambda written)) (o : Option ℕ) → InGroup (scope_of (Group fs env)) d gs o → in_group o later ≡ Some y → FoundAs (named_member written d (Group fs env) found) (Group gs env') y
+  member_found : (fs : List (Name × Lambda written)) (gs : List (Unit {0} × Code)) (env : Env (Named written)) (env' : Env Core)
+      (found : Option (Value (Named written))) (later : Option Slot) (y : Slot) → AlikeEnv r (Group fs env) (Group gs env')
+      → AllFound found env' later → (d : Option (Lambda written)) (o : Option ℕ) → InGroup (scope_of (Group fs env)) d gs o
+      → in_group o later ≡ Some y → FoundAs (named_member written d (Group fs env) found) (Group gs env') y
   unfolding InGroup
   member_found fs gs env env' found later y a k d (Some n) h e =
       let at_n : Both (Alike r) (Some (Function h.0 (Group fs env))) (member (Some h.1) (Group gs env')) = function_as h.4 a in
@@ -70,7 +81,8 @@ module _ (r : Reading (Named written) Core) where
       subst (FoundAs (named_member written d (Group fs env) found) (Group gs env')) (same_slot _ y e) now
   member_found fs gs env env' found later y a k d None h e = rw h (group_further gs env' found later y k e)
 
-  pub look_as : {env : Env (Named written)} {env' : Env Core} (x : Name) (y : Slot) → AlikeEnv r env env' → slot_of (scope_of env) x ≡ Some y → Both (Alike r) (look written env x) (at_slot env' y)
+  pub look_as : {env : Env (Named written)} {env' : Env Core} (x : Name) (y : Slot) → AlikeEnv r env env'
+      → slot_of (scope_of env) x ≡ Some y → Both (Alike r) (look written env x) (at_slot env' y)
   look_as x y outside_as e = absurd (cc)
   look_as x y (bind_as {m = m} {n = n} {v = v} {w = w} {env = env} {env' = env'} a b) e =
       bind_found n v w env' (look written env x) (slot_of (scope_of env) x) y a (λ z e. look_as x z b e) (bytes_eq m x) e

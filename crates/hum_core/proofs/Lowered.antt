@@ -32,7 +32,8 @@ use Rattle.hum_core.proofs.Slots.{slot_as}
 -- ---- courses of action that are the same at each point
 
 module _ {L K : Parts} (r : Reading L K) (b : ℕ) where
-  by_points : {A B : Type 0} (R : A → B → Type 0) (p : Action L A) (q q' : Action K B) → ((e : Effects K) (s : ℕ) → q' e s ≡ q e s) → ActsAs r b R p q → ActsAs r b R p q'
+  by_points : {A B : Type 0} (R : A → B → Type 0) (p : Action L A) (q q' : Action K B) → ((e : Effects K) (s : ℕ) → q' e s ≡ q e s)
+      → ActsAs r b R p q → ActsAs r b R p q'
   by_points R p q q' same h = record { at = λ e d s lt k. subst (λ o. OutcomeAs r s R (p e s) o) (sym (same d s)) (h.at e d s lt k) }
 
   -- the last test of a list goes on to nothing
@@ -45,7 +46,8 @@ module _ {L K : Parts} (r : Reading L K) (b : ℕ) where
   ends_same (Fails c n) = refl
   ends_same Undecided = refl
 
-  ended : {A : Type 0} (R : A → Matched K → Type 0) (p : Action L A) (q : Action K (Matched K)) → ActsAs r b R p q → ActsAs r b R p (q >>= ends)
+  ended : {A : Type 0} (R : A → Matched K → Type 0) (p : Action L A) (q : Action K (Matched K)) → ActsAs r b R p q
+      → ActsAs r b R p (q >>= ends)
   ended R p q h = by_points R p q (q >>= ends) (λ e s. ends_same (q e s)) h
 
 module _ (units : List CoreUnit) (tested : List TestUnit) where
@@ -67,7 +69,8 @@ module _ (units : List CoreUnit) (tested : List TestUnit) where
   same_all scope e (test.Same d) h = h
   same_all scope e _ h = absurd (h 0)
 
-  items_all : (scope : Scope Core) (p q : CorePat) (more : List CorePat) (ts : List Test) → ((n : ℕ) → ItemsAs (to n) scope p q more ts) → ItemsAs R scope p q more ts
+  items_all : (scope : Scope Core) (p q : CorePat) (more : List CorePat) (ts : List Test) → ((n : ℕ) → ItemsAs (to n) scope p q more ts)
+      → ItemsAs R scope p q more ts
   items_all scope p q [] [] h = h 0
   items_all scope p q (o ∷ more) [] h = h 0
   items_all scope p q [] (t ∷ ts) h = ((h 0).0, λ n. (h n).1, λ n. (h n).2)
@@ -91,11 +94,13 @@ module _ (units : List CoreUnit) (tested : List TestUnit) where
   no_tests : (scope : Scope Core) (p : CorePat) → R.PatternAs scope p [] → ⊥
   no_tests scope p h = none_of scope (out-CorePat p) (h 1)
 
-  takes_by : (scope : Scope Core) (q : CorePat) (ts us : List Test) → other_values ts ≡ us → R.PatternAs scope q us → Takes (first_value ts) 1
+  takes_by : (scope : Scope Core) (q : CorePat) (ts us : List Test) → other_values ts ≡ us → R.PatternAs scope q us
+      → Takes (first_value ts) 1
   takes_by scope q ts [] e h = absurd (no_tests scope q h)
   takes_by scope q ts (u ∷ us) e h = split_takes ts 1 u us e
 
-  items_by : (scope : Scope Core) (p q : CorePat) (more : List CorePat) (ts us : List Test) → other_values ts ≡ us → ItemsAs R scope p q more us → Takes (first_value ts) 1
+  items_by : (scope : Scope Core) (p q : CorePat) (more : List CorePat) (ts us : List Test) → other_values ts ≡ us
+      → ItemsAs R scope p q more us → Takes (first_value ts) 1
   items_by scope p q [] ts [] e h = absurd h
   items_by scope p q (o ∷ more) ts [] e h = absurd h
   items_by scope p q more ts (u ∷ us) e h = split_takes ts 1 u us e
@@ -110,7 +115,8 @@ module _ (units : List CoreUnit) (tested : List TestUnit) where
     m' = level k self base n'
 
     -- a pattern below, and its tests of one value
-    below_as : (p : CorePat) (ts : List Test) (v : Value Core) (w : Value Tests) (es : List (Entry Core)) (ds : List (Entry Tests)) → R.PatternAs (scope_of env) p ts → Alike R v w → Bound R es ds →
+    below_as : (p : CorePat) (ts : List Test) (v : Value Core) (w : Value Tests) (es : List (Entry Core)) (ds : List (Entry Tests))
+        → R.PatternAs (scope_of env) p ts → Alike R v w → Bound R es ds →
         ActsAs R b (Both (EntriesAs R (marks p ++ marks_of R es))) (m.matches p v env es) (tests_from m'.eval ts (w ∷ []) env' ds)
     unfolding level
     below_as p ts v w es ds c i j = (all n (suc n') le (omega (arith, le'))).matches p ts v w env env' es ds a c i j
@@ -119,17 +125,21 @@ module _ (units : List CoreUnit) (tested : List TestUnit) where
     abbrev single : TestNode → Value Tests → List (Entry Tests) → Action Tests (Matched Tests)
     single t w ds = step >> one_test m'.eval t w [] env' ds (λ vs es. pure (Some es))
 
-    by_test : (t t' : TestNode) → t ≡ t' → (ns : Marks) (p : Action Core (Matched Core)) (w : Value Tests) (ds : List (Entry Tests)) → ActsAs R (suc b) (Both (EntriesAs R ns)) p (single t' w ds) → ActsAs R (suc b) (Both (EntriesAs R ns)) p (single t w ds)
+    by_test : (t t' : TestNode) → t ≡ t' → (ns : Marks) (p : Action Core (Matched Core)) (w : Value Tests) (ds : List (Entry Tests))
+        → ActsAs R (suc b) (Both (EntriesAs R ns)) p (single t' w ds) → ActsAs R (suc b) (Both (EntriesAs R ns)) p (single t w ds)
     by_test t t' e ns p w ds h = subst (λ t. ActsAs R (suc b) (Both (EntriesAs R ns)) p (single t w ds)) (sym e) h
 
-    same_as_test : (e : CoreExpr) (t : TestNode) → SameAs R (scope_of env) e t → (v : Value Core) (w : Value Tests) (es : List (Entry Core)) (ds : List (Entry Tests)) → Alike R v w → Bound R es ds →
+    same_as_test : (e : CoreExpr) (t : TestNode) → SameAs R (scope_of env) e t
+        → (v : Value Core) (w : Value Tests) (es : List (Entry Core)) (ds : List (Entry Tests)) → Alike R v w → Bound R es ds →
         ActsAs R (suc b) (Both (EntriesAs R (marks_of R es))) (core_match m.eval m.matches (core.Value e) v env es) (single t w ds)
     same_as_test e (test.Same d) c v w es ds i j =
         step_as R b _ _ _ (ended R b _ _ _ (bind_as' R b _ _ _ _ (λ x y k. equals_as R b es ds i k j) _ _ ((all n n' le le').eval e d env env' a c)))
     same_as_test e _ c v w es ds i j = absurd c
 
     -- a pair: a pattern on its head, and then a rest on its tail
-    pair_as_tests : (p : CorePat) (t : Test) (ts : List Test) → out-Test t ≡ test.Pair → R.PatternAs (scope_of env) p (first_value ts) → Takes (first_value ts) 1 → (ns : Marks) (rest : Value Core → List (Entry Core) → Action Core (Matched Core)) (v : Value Core) (w : Value Tests) (es : List (Entry Core)) (ds : List (Entry Tests)) → Alike R v w → Bound R es ds →
+    pair_as_tests : (p : CorePat) (t : Test) (ts : List Test) → out-Test t ≡ test.Pair → R.PatternAs (scope_of env) p (first_value ts)
+        → Takes (first_value ts) 1 → (ns : Marks) (rest : Value Core → List (Entry Core) → Action Core (Matched Core)) (v : Value Core)
+        (w : Value Tests) (es : List (Entry Core)) (ds : List (Entry Tests)) → Alike R v w → Bound R es ds →
         ((y : Value Core) (y' : Value Tests) (es1 : List (Entry Core)) (ds1 : List (Entry Tests)) → Alike R y y' → EntriesAs R (marks p ++ marks_of R es) es1 ds1 → ActsAs R b (Both (EntriesAs R ns)) (rest y es1) (tests_from m'.eval (other_values ts) (y' ∷ []) env' ds1)) →
         ActsAs R (suc b) (Both (EntriesAs R ns)) (step >> pairs v (λ head tail. m.matches p head env es >>= (λ o. if_matched o (rest tail) (pure None)))) (tests_from m'.eval (t ∷ ts) (w ∷ []) env' ds)
     pair_as_tests p t ts e c takes ns rest v w es ds i j go =
@@ -140,7 +150,8 @@ module _ (units : List CoreUnit) (tested : List TestUnit) where
         (tests_split m'.eval (other_values ts) env' (y' ∷ []) (first_value ts) (x' ∷ []) ds takes d s))
         (bind_as' R b _ _ _ _ (λ o o' q. if_matched_as R b _ _ o o' _ _ _ _ q (λ es1 ds1 z. go y y' es1 ds1 l z) (pure_as R b _ None None tt)) _ _ (below_as p (first_value ts) x x' es ds c k j)))))
 
-    items_as_tests : (p q : CorePat) (more : List CorePat) (ts : List Test) → ItemsAs R (scope_of env) p q more ts → (v : Value Core) (w : Value Tests) (es : List (Entry Core)) (ds : List (Entry Tests)) → Alike R v w → Bound R es ds →
+    items_as_tests : (p q : CorePat) (more : List CorePat) (ts : List Test) → ItemsAs R (scope_of env) p q more ts
+        → (v : Value Core) (w : Value Tests) (es : List (Entry Core)) (ds : List (Entry Tests)) → Alike R v w → Bound R es ds →
         ActsAs R (suc b) (Both (EntriesAs R (marks_of_items (p ∷ q ∷ more) ++ marks_of R es))) (match_items m.matches p q more v env es) (tests_from m'.eval ts (w ∷ []) env' ds)
     items_as_tests p q [] [] c v w es ds i j = absurd c
     items_as_tests p q (o ∷ more) [] c v w es ds i j = absurd c
@@ -152,7 +163,8 @@ module _ (units : List CoreUnit) (tested : List TestUnit) where
         (λ y y' es1 ds1 x z. renamed R b _ _ _ _ (ap (λ u. marks_of_items (q ∷ o ∷ more) ++ u) z.0 ∙ sym (append_assoc (marks_of_items (q ∷ o ∷ more)) (marks p) (marks_of R es)))
         (fewer R b _ (suc b) _ _ (omega arith) (items_as_tests q o more (other_values ts) c.2 y y' es1 ds1 x z.1)))
 
-    node_as_tests : (p : NumberedPat) (ts : List Test) → TestsAs R (scope_of env) p ts → (v : Value Core) (w : Value Tests) (es : List (Entry Core)) (ds : List (Entry Tests)) → Alike R v w → Bound R es ds →
+    node_as_tests : (p : NumberedPat) (ts : List Test) → TestsAs R (scope_of env) p ts
+        → (v : Value Core) (w : Value Tests) (es : List (Entry Core)) (ds : List (Entry Tests)) → Alike R v w → Bound R es ds →
         ActsAs R (suc b) (Both (EntriesAs R (marks_here p ++ marks_of R es))) (core_match m.eval m.matches p v env es) (tests_from m'.eval ts (w ∷ []) env' ds)
     node_as_tests core.Any (t ∷ []) c v w es ds i j = by_test _ _ c _ _ w ds (any_as R b v w env env' es ds j)
     node_as_tests core.Bind (t ∷ []) c v w es ds i j = by_test _ _ c _ _ w ds (bind_mark_as R b tt tt v w env env' es ds i j)

@@ -17,7 +17,8 @@ names_here (layer.Bind x) = x ∷ []
 names_here (layer.Pat::Tuple ps) = names_of_items ps
 names_here _ = []
 
-node : (e : Expr → Unit {0}) (s : Stmt → Unit {0}) (a : Arm → Unit {0}) (b : Branch → Unit {0}) (p : WrittenPat) → names_node (map-Pat Expr Pat Stmt Arm Branch (Unit {0}) Names (Unit {0}) (Unit {0}) (Unit {0}) e names_of s a b p) ≡ names_here p
+node : (e : Expr → Unit {0}) (s : Stmt → Unit {0}) (a : Arm → Unit {0}) (b : Branch → Unit {0}) (p : WrittenPat)
+    → names_node (map-Pat Expr Pat Stmt Arm Branch (Unit {0}) Names (Unit {0}) (Unit {0}) (Unit {0}) e names_of s a b p) ≡ names_here p
 node e s a b (layer.Pat::Tuple ps) = refl
 node e s a b _ = refl
 

@@ -19,14 +19,16 @@ module _ {L K : Parts} (r : Reading L K) (b' : ℕ) where
   extend_scope [] env = refl
   extend_scope (e ∷ es) env = ap (λ s. One e.0 ∷ s) (extend_scope es env)
 
-  extend_as : (es : List (Entry L)) (ds : List (Entry K)) (env : Env L) (env' : Env K) → Bound r es ds → AlikeEnv r env env' → AlikeEnv r (extend es env) (extend ds env')
+  extend_as : (es : List (Entry L)) (ds : List (Entry K)) (env : Env L) (env' : Env K) → Bound r es ds → AlikeEnv r env env'
+      → AlikeEnv r (extend es env) (extend ds env')
   extend_as [] [] env env' h k = k
   extend_as (e ∷ es) (d ∷ ds) env env' h k = bind_as h.0 (extend_as es ds env env' h.1 k)
   extend_as [] (d ∷ ds) env env' h k = absurd h
   extend_as (e ∷ es) [] env env' h k = absurd h
 
   -- the scope under a pattern whose entries these are
-  under : (marks : List L.Mark) (es : List (Entry L)) (env : Env L) → marks_of r es ≡ marks ++ [] → with_marks marks (scope_of env) ≡ scope_of (extend es env)
+  under : (marks : List L.Mark) (es : List (Entry L)) (env : Env L) → marks_of r es ≡ marks ++ []
+      → with_marks marks (scope_of env) ≡ scope_of (extend es env)
   under marks es env e = ap (λ n. with_marks n (scope_of env)) (sym (append-nil marks) ∙ sym e) ∙ sym (extend_scope es env)
 
   -- ---- choices
@@ -37,17 +39,22 @@ module _ {L K : Parts} (r : Reading L K) (b' : ℕ) where
   found_as None (Some w) h = absurd h
   found_as (Some v) None h = absurd h
 
-  pub if_matched_as : {A B : Type 0} (R : A → B → Type 0) (marks : List L.Mark) (o : Matched L) (o' : Matched K) (f : List (Entry L) → Action L A) (g : List (Entry K) → Action K B) (p : Action L A) (q : Action K B) → Both (EntriesAs r marks) o o' → ((es : List (Entry L)) (ds : List (Entry K)) → EntriesAs r marks es ds → ActsAs r b' R (f es) (g ds)) → ActsAs r b' R p q → ActsAs r b' R (if_matched o f p) (if_matched o' g q)
+  pub if_matched_as : {A B : Type 0} (R : A → B → Type 0) (marks : List L.Mark) (o : Matched L) (o' : Matched K)
+      (f : List (Entry L) → Action L A) (g : List (Entry K) → Action K B) (p : Action L A) (q : Action K B) → Both (EntriesAs r marks) o o'
+      → ((es : List (Entry L)) (ds : List (Entry K)) → EntriesAs r marks es ds → ActsAs r b' R (f es) (g ds)) → ActsAs r b' R p q
+      → ActsAs r b' R (if_matched o f p) (if_matched o' g q)
   if_matched_as R marks (Some es) (Some ds) f g p q h k l = k es ds h
   if_matched_as R marks None None f g p q h k l = l
   if_matched_as R marks None (Some ds) f g p q h k l = absurd h
   if_matched_as R marks (Some es) None f g p q h k l = absurd h
 
-  if_truth : {A B : Type 0} (R : A → B → Type 0) (b : Bool) (p p' : Action L A) (q q' : Action K B) → ActsAs r b' R p q → ActsAs r b' R p' q' → ActsAs r b' R (if_true (Plain (Truth b)) p p') (if_true (Plain (Truth b)) q q')
+  if_truth : {A B : Type 0} (R : A → B → Type 0) (b : Bool) (p p' : Action L A) (q q' : Action K B) → ActsAs r b' R p q
+      → ActsAs r b' R p' q' → ActsAs r b' R (if_true (Plain (Truth b)) p p') (if_true (Plain (Truth b)) q q')
   if_truth R true p p' q q' h k = h
   if_truth R false p p' q q' h k = k
 
-  if_true_as : {A B : Type 0} (R : A → B → Type 0) {v : Value L} {w : Value K} (p p' : Action L A) (q q' : Action K B) → Alike r v w → ActsAs r b' R p q → ActsAs r b' R p' q' → ActsAs r b' R (if_true v p p') (if_true w q q')
+  if_true_as : {A B : Type 0} (R : A → B → Type 0) {v : Value L} {w : Value K} (p p' : Action L A) (q q' : Action K B) → Alike r v w
+      → ActsAs r b' R p q → ActsAs r b' R p' q' → ActsAs r b' R (if_true v p p') (if_true w q q')
   if_true_as R p p' q q' (plain_as (Truth b)) h k = if_truth R b p p' q q' h k
   if_true_as R p p' q q' _ h k = fail_as r b' R not_a_truth_value
 
@@ -55,7 +62,8 @@ module _ {L K : Parts} (r : Reading L K) (b' : ℕ) where
   send_to_as (plain_as (Actor n)) h = send_as r b' n _ _ h
   send_to_as _ h = fail_as r b' (λ a b. Unit {0}) not_an_actor
 
-pub goes_on : {L K : Parts} (r : Reading L K) (scope : Scope L) (s : StmtNode L) (more : List (StmtNode L)) → StatementsAs r scope (s ∷ more) [] → ⊥
+pub goes_on : {L K : Parts} (r : Reading L K) (scope : Scope L) (s : StmtNode L) (more : List (StmtNode L))
+    → StatementsAs r scope (s ∷ more) [] → ⊥
 goes_on r scope Defined more c = c
 goes_on r scope _ more c = c
 
@@ -63,14 +71,18 @@ goes_on r scope _ more c = c
 
 module _ {L K : Parts} (r : Reading L K) (b' : ℕ) (m : Meaning L) (m' : Meaning K) (h : Follows r b' m m') where
   -- what stands behind a pattern that matches
-  behind_as : (env : Env L) (env' : Env K) → AlikeEnv r env env' → (f : L.Pattern × L.Expr) (g : K.Pattern × K.Expr) → ArmAs r (scope_of env) f g → (v : Value L) (w : Value K) → Alike r v w → (p : Action L (Value L)) (q : Action K (Value K)) → ActsAs r b' (Alike r) p q →
+  behind_as : (env : Env L) (env' : Env K) → AlikeEnv r env env' → (f : L.Pattern × L.Expr) (g : K.Pattern × K.Expr)
+      → ArmAs r (scope_of env) f g → (v : Value L) (w : Value K) → Alike r v w → (p : Action L (Value L)) (q : Action K (Value K))
+      → ActsAs r b' (Alike r) p q →
       ActsAs r b' (Alike r) (m.matches f.0 v env [] >>= (λ o. if_matched o (λ es. m.eval f.1 (extend es env)) p)) (m'.matches g.0 w env' [] >>= (λ o. if_matched o (λ es. m'.eval g.1 (extend es env')) q))
   behind_as env env' a f g c v w i p q k =
       bind_as' r b' _ _ _ _ (λ o o' e. if_matched_as r b' (Alike r) _ o o' _ _ _ _ e
       (λ es ds n. h.eval f.1 g.1 (extend es env) (extend ds env') (extend_as r b' es ds env env' n.1 a) (subst (λ s. r.ExprAs s f.1 g.1) (under r b' (r.marks f.0) es env n.0) c.1)) k)
       _ _ (h.matches f.0 g.0 v w env env' [] [] a c.0 i tt)
 
-  enter_as : (env : Env L) (env' : Env K) {v : Value L} {w : Value K} → AlikeEnv r env env' → Alike r v w → (o : Option (L.Pattern × L.Expr)) (o' : Option (K.Pattern × K.Expr)) → Both (ArmAs r (scope_of env)) o o' → ActsAs r b' (Alike r) (enter m o env v) (enter m' o' env' w)
+  enter_as : (env : Env L) (env' : Env K) {v : Value L} {w : Value K} → AlikeEnv r env env' → Alike r v w
+      → (o : Option (L.Pattern × L.Expr)) (o' : Option (K.Pattern × K.Expr)) → Both (ArmAs r (scope_of env)) o o'
+      → ActsAs r b' (Alike r) (enter m o env v) (enter m' o' env' w)
   enter_as env env' {v} {w} a b None None c = fail_as r b' (Alike r) not_a_function
   enter_as env env' {v} {w} a b (Some f) (Some g) c = behind_as env env' a f g c v w b _ _ (fail_as r b' (Alike r) no_match)
   enter_as env env' {v} {w} a b None (Some g) c = absurd c
@@ -81,7 +93,8 @@ module _ {L K : Parts} (r : Reading L K) (b' : ℕ) (m : Meaning L) (m' : Meanin
   perform_as _ = pure_as r b' (λ x y. Unit {0}) tt tt tt
 
   module _ (env : Env L) (env' : Env K) (a : AlikeEnv r env env') where
-    tuple_as : (es : List L.Expr) (ds : List K.Expr) → Each (r.ExprAs (scope_of env)) es ds → ActsAs r b' (Alike r) (tuple m es env) (tuple m' ds env')
+    tuple_as : (es : List L.Expr) (ds : List K.Expr) → Each (r.ExprAs (scope_of env)) es ds
+        → ActsAs r b' (Alike r) (tuple m es env) (tuple m' ds env')
     tuple_as [] [] c = pure_as r b' (Alike r) _ _ (plain_as Nil)
     tuple_as (e ∷ []) (d ∷ []) c = h.eval e d env env' a c.0
     tuple_as (e ∷ f ∷ more) (d ∷ g ∷ others) c = bind_as' r b' _ _ _ _ (λ v w i. bind_as' r b' _ _ _ _ (λ x y j. pure_as r b' (Alike r) _ _ (pair_as i j)) _ _ (tuple_as (f ∷ more) (g ∷ others) c.1)) _ _ (h.eval e d env env' a c.0)
@@ -90,20 +103,24 @@ module _ {L K : Parts} (r : Reading L K) (b' : ℕ) (m : Meaning L) (m' : Meanin
     tuple_as (e ∷ []) (d ∷ g ∷ others) c = absurd c.1
     tuple_as (e ∷ f ∷ more) (d ∷ []) c = absurd c.1
 
-    arms_as : (more : List (L.Pattern × L.Expr)) (others : List (K.Pattern × K.Expr)) (v : Value L) (w : Value K) → Alike r v w → Each (ArmAs r (scope_of env)) more others → ActsAs r b' (Alike r) (arms m more v env) (arms m' others w env')
+    arms_as : (more : List (L.Pattern × L.Expr)) (others : List (K.Pattern × K.Expr)) (v : Value L) (w : Value K) → Alike r v w
+        → Each (ArmAs r (scope_of env)) more others → ActsAs r b' (Alike r) (arms m more v env) (arms m' others w env')
     arms_as [] [] v w i c = fail_as r b' (Alike r) no_match
     arms_as (f ∷ more) (g ∷ others) v w i c = behind_as env env' a f g c.0 v w i _ _ (arms_as more others v w i c.1)
     arms_as [] (g ∷ others) v w i c = absurd c
     arms_as (f ∷ more) [] v w i c = absurd c
 
-    branches_as : (more : List (L.Expr × L.Body)) (others : List (K.Expr × K.Body)) (b : L.Body) (c : K.Body) → Each (BranchAs r (scope_of env)) more others → r.BodyAs (scope_of env) b c → ActsAs r b' (Alike r) (branches m more b env) (branches m' others c env')
+    branches_as : (more : List (L.Expr × L.Body)) (others : List (K.Expr × K.Body)) (b : L.Body) (c : K.Body)
+        → Each (BranchAs r (scope_of env)) more others → r.BodyAs (scope_of env) b c
+        → ActsAs r b' (Alike r) (branches m more b env) (branches m' others c env')
     branches_as [] [] b c i j = pure_as r b' (Alike r) _ _ (block_as j a)
     branches_as (f ∷ more) (g ∷ others) b c i j = bind_as' r b' _ _ _ _ (λ v w n. if_true_as r b' (Alike r) _ _ _ _ n (pure_as r b' (Alike r) _ _ (block_as i.0.1 a)) (branches_as more others b c i.1 j)) _ _ (h.eval f.0 g.0 env env' a i.0.0)
     branches_as [] (g ∷ others) b c i j = absurd i
     branches_as (f ∷ more) [] b c i j = absurd i
 
 module _ {L K : Parts} (r : Reading L K) (l : Language L) (k : Language K) (sound : Sound r l k) (self base : ℕ) (b' : ℕ) (m : Meaning L) (m' : Meaning K) (h : Follows r b' m m') where
-  pub apply_as : {f v : Value L} {g w : Value K} → Alike r f g → Alike r v w → ActsAs r b' (Alike r) (apply l self base m f v) (apply k self base m' g w)
+  pub apply_as : {f v : Value L} {g w : Value K} → Alike r f g → Alike r v w
+      → ActsAs r b' (Alike r) (apply l self base m f v) (apply k self base m' g w)
   apply_as (function_as {f = f} {g = g} {env = env} {env' = env'} c a) b = enter_as r b' m m' h env env' a b (l.abstraction f) (k.abstraction g) (sound.abstraction (scope_of env) f g c)
   apply_as (primitive_as b) i = built_in_as r b' b i
   apply_as _ i = fail_as r b' (Alike r) not_a_function
@@ -112,7 +129,8 @@ module _ {L K : Parts} (r : Reading L K) (l : Language L) (k : Language K) (soun
   actor_at x y e = subst (λ y. Alike r (Plain (Actor x)) (Plain (Actor y))) e (plain_as (Actor x))
 
   module _ (env : Env L) (env' : Env K) (a : AlikeEnv r env env') where
-    eval_node_as : (e : ExprNode L) (d : ExprNode K) → ExprNodeAs r (scope_of env) e d → ActsAs r b' (Alike r) (eval_node l self base m e env) (eval_node k self base m' d env')
+    eval_node_as : (e : ExprNode L) (d : ExprNode K) → ExprNodeAs r (scope_of env) e d
+        → ActsAs r b' (Alike r) (eval_node l self base m e env) (eval_node k self base m' d env')
     eval_node_as (Is v) (Is w) c = pure_as r b' (Alike r) v w (constant_as r b' v w c)
     eval_node_as (Var x) (Var y) c = found_as r b' _ _ (sound.look env env' x y a c)
     eval_node_as Myself Myself c = pure_as r b' (Alike r) _ _ (plain_as (Actor self))
@@ -126,7 +144,11 @@ module _ {L K : Parts} (r : Reading L K) (l : Language L) (k : Language K) (soun
     eval_node_as _ _ c = absurd c
 
   -- the first statement, where what follows is as it is to be
-  statement_as : (s : StmtNode L) (more : List (StmtNode L)) (t : StmtNode K) (others : List (StmtNode K)) → ((env : Env L) (env' : Env K) → AlikeEnv r env env' → StatementsAs r (scope_of env) more others → ActsAs r b' (λ x y. Unit {0}) (statements base m more env) (statements base m' others env')) → (env : Env L) (env' : Env K) → AlikeEnv r env env' → StatementsAs r (scope_of env) (s ∷ more) (t ∷ others) → ActsAs r b' (λ x y. Unit {0}) (statement base m s env (statements base m more)) (statement base m' t env' (statements base m' others))
+  statement_as : (s : StmtNode L) (more : List (StmtNode L)) (t : StmtNode K) (others : List (StmtNode K))
+      → ((env : Env L) (env' : Env K) → AlikeEnv r env env' → StatementsAs r (scope_of env) more others → ActsAs r b' (λ x y. Unit {0}) (statements base m more env) (statements base m' others env'))
+      → (env : Env L) (env' : Env K) → AlikeEnv r env env' → StatementsAs r (scope_of env) (s ∷ more) (t ∷ others)
+      → ActsAs r b' (λ x y. Unit {0}) (statement base m s env (statements base m more))
+      (statement base m' t env' (statements base m' others))
   statement_as (Let p e) more (Let q d) others go env env' a c =
       bind_as' r b' _ _ _ _ (λ v w i. bind_as' r b' _ _ _ _ (λ o o' j. if_matched_as r b' _ _ o o' _ _ _ _ j
       (λ es ds n. go (extend es env) (extend ds env') (extend_as r b' es ds env env' n.1 a) (subst (λ s. StatementsAs r s more others) (under r b' (r.marks p) es env n.0) c.2)) (fail_as r b' _ no_match))
@@ -144,7 +166,8 @@ module _ {L K : Parts} (r : Reading L K) (l : Language L) (k : Language K) (soun
       bind_as' r b' _ _ _ _ (λ v w i. bind_as' r b' _ _ _ _ (λ _ _ _. go env env' a c.1) _ _ (perform_as r b' m m' h i)) _ _ (h.eval e d env env' a c.0)
   statement_as _ more _ others go env env' a c = absurd c
 
-  statements_as : (ss : List (StmtNode L)) (ts : List (StmtNode K)) (env : Env L) (env' : Env K) → AlikeEnv r env env' → StatementsAs r (scope_of env) ss ts → ActsAs r b' (λ x y. Unit {0}) (statements base m ss env) (statements base m' ts env')
+  statements_as : (ss : List (StmtNode L)) (ts : List (StmtNode K)) (env : Env L) (env' : Env K) → AlikeEnv r env env'
+      → StatementsAs r (scope_of env) ss ts → ActsAs r b' (λ x y. Unit {0}) (statements base m ss env) (statements base m' ts env')
   statements_as [] [] env env' a c = pure_as r b' (λ x y. Unit {0}) tt tt tt
   statements_as (s ∷ more) (t ∷ others) env env' a c = step_keeps r b' _ _ _ (statement_as s more t others (statements_as more others) env env' a c)
   statements_as [] (t ∷ others) env env' a c = absurd c
@@ -153,7 +176,9 @@ module _ {L K : Parts} (r : Reading L K) (l : Language L) (k : Language K) (soun
 -- ---- all levels
 
 module _ {L K : Parts} (r : Reading L K) (l : Language L) (k : Language K) (sound : Sound r l k) (self base : ℕ) where
-  body_as : (b : ℕ) (m : Meaning L) (m' : Meaning K) → Follows r b m m' → (ss : List (StmtNode L)) (ts : List (StmtNode K)) (env : Env L) (env' : Env K) → AlikeEnv r env env' → StatementsAs r (scope_of env) ss ts → ActsAs r (suc b) (λ x y. Unit {0}) (statements base m ss env) (statements base m' ts env')
+  body_as : (b : ℕ) (m : Meaning L) (m' : Meaning K) → Follows r b m m'
+      → (ss : List (StmtNode L)) (ts : List (StmtNode K)) (env : Env L) (env' : Env K) → AlikeEnv r env env'
+      → StatementsAs r (scope_of env) ss ts → ActsAs r (suc b) (λ x y. Unit {0}) (statements base m ss env) (statements base m' ts env')
   body_as b m m' h [] [] env env' a c = pure_as r (suc b) (λ x y. Unit {0}) tt tt tt
   body_as b m m' h (s ∷ more) (t ∷ others) env env' a c = step_as r b _ _ _ (statement_as r l k sound self base b m m' h s more t others (statements_as r l k sound self base b m m' h more others) env env' a c)
   body_as b m m' h [] (t ∷ others) env env' a c = absurd c

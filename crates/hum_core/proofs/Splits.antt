@@ -33,14 +33,17 @@ module _ (eval : Evaluator Tests) (ts' : List Test) (env : Env Tests) (vs : List
   abbrev pub on : Matched Tests → Action Tests (Matched Tests)
   on m = if_matched m (tests_from eval ts' vs env) (pure None)
 
-  go_on : (rest rest' : List (Entry Tests) → Action Tests (Matched Tests)) → ((es : List (Entry Tests)) (e : Effects Tests) (s : ℕ) → rest es e s ≡ and_then (rest' es e s) on) → (o : Outcome Tests (Matched Tests)) →
+  go_on : (rest rest' : List (Entry Tests) → Action Tests (Matched Tests))
+      → ((es : List (Entry Tests)) (e : Effects Tests) (s : ℕ) → rest es e s ≡ and_then (rest' es e s) on)
+      → (o : Outcome Tests (Matched Tests)) →
       and_then o (λ m. if_matched m rest (pure None)) ≡ and_then (and_then o (λ m. if_matched m rest' (pure None))) on
   go_on rest rest' h (Gives (Some es) e s) = h es e s
   go_on rest rest' h (Gives None e s) = refl
   go_on rest rest' h (Fails c n) = refl
   go_on rest rest' h Undecided = refl
 
-  one_split : (l : TestNode) (u : Value Tests) (us : List (Value Tests)) (es : List (Entry Tests)) (rest rest' : Rest) (more : ℕ → Type 0) → more (left_behind l (length us)) →
+  one_split : (l : TestNode) (u : Value Tests) (us : List (Value Tests)) (es : List (Entry Tests)) (rest rest' : Rest) (more : ℕ → Type 0)
+      → more (left_behind l (length us)) →
       ((us : List (Value Tests)) (es : List (Entry Tests)) → more (length us) → (e : Effects Tests) (s : ℕ) → rest (us ++ vs) es e s ≡ and_then (rest' us es e s) on) →
       (e : Effects Tests) (s : ℕ) → one_test eval l u (us ++ vs) env es rest e s ≡ and_then (one_test eval l u us env es rest' e s) on
   one_split test.Pair (Pair a b) us es rest rest' more c h e s = h (a ∷ b ∷ us) es c e s
@@ -50,7 +53,8 @@ module _ (eval : Evaluator Tests) (ts' : List Test) (env : Env Tests) (vs : List
   one_split test.Bind u us es rest rest' more c h e s = h us ((tt, u) ∷ es) c e s
   one_split test.Skip u us es rest rest' more c h e s = h us es c e s
 
-  pub tests_split : (ts : List Test) (us : List (Value Tests)) (es : List (Entry Tests)) → Takes ts (length us) → (e : Effects Tests) (s : ℕ) → tests_from eval (ts ++ ts') (us ++ vs) env es e s ≡ and_then (tests_from eval ts us env es e s) on
+  pub tests_split : (ts : List Test) (us : List (Value Tests)) (es : List (Entry Tests)) → Takes ts (length us)
+      → (e : Effects Tests) (s : ℕ) → tests_from eval (ts ++ ts') (us ++ vs) env es e s ≡ and_then (tests_from eval ts us env es e s) on
   tests_split [] [] es c e s = refl
   tests_split [] (u ∷ us) es c e s = absurd c
   tests_split (t ∷ ts) [] es c e s = absurd c

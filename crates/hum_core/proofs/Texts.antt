@@ -1,7 +1,7 @@
 -- Devices write the same for values that are alike.
-use Rattle.std.proofs.Common.{◌≡◌, refl, ap, sym, ◌∙◌, ℕ, zero, suc, ◌+◌, Bool, true, false, List, [], ◌∷◌, ◌++◌, Option, Some, None}
+use Rattle.std.proofs.Common.{◌≡◌, refl, ap, ◌∙◌, ℕ, zero, suc, ◌+◌, Bool, true, false, List, ◌++◌, Option, Some, None}
 use Rattle.std.specs.Prelude.{option_map, nat_le, codes, if◌then◌else◌}
-use Rattle.hum_meaning.specs.Value.{Parts, Atom, Undefined, Nil, Truth, Number, Symbol, Actor, Value, Plain, Pair}
+use Rattle.hum_meaning.specs.Value.{Parts, Atom, Undefined, Nil, Truth, Number, Symbol, Actor, Value, Plain}
 use Rattle.hum_meaning.specs.Piece.{text_of, leaves, most_leaves, spoken, speech, line, device_text, piece}
 use Rattle.hum_core.specs.Alike.{Reading, Alike, plain_as, pair_as, function_as, block_as, primitive_as}
 

@@ -6,13 +6,15 @@ use Rattle.hum_core.specs.Alike.{Scope, One, grouped, with_marks, Both, Each, Re
 use Rattle.hum_core.specs.Reading.{Linking, reading_to, whole_reading}
 use Rattle.hum_core.proofs.Simulates.{goes_on}
 
-pub each_all : {A B : Type 0} (R : ℕ → A → B → Type 0) (S : A → B → Type 0) → ((a : A) (b : B) → ((n : ℕ) → R n a b) → S a b) → (xs : List A) (ys : List B) → ((n : ℕ) → Each (R n) xs ys) → Each S xs ys
+pub each_all : {A B : Type 0} (R : ℕ → A → B → Type 0) (S : A → B → Type 0) → ((a : A) (b : B) → ((n : ℕ) → R n a b) → S a b)
+    → (xs : List A) (ys : List B) → ((n : ℕ) → Each (R n) xs ys) → Each S xs ys
 each_all R S f [] [] h = tt
 each_all R S f (x ∷ xs) (y ∷ ys) h = (f x y (λ n. (h n).0), each_all R S f xs ys (λ n. (h n).1))
 each_all R S f [] (y ∷ ys) h = h 0
 each_all R S f (x ∷ xs) [] h = h 0
 
-both_all : {A B : Type 0} (R : ℕ → A → B → Type 0) (S : A → B → Type 0) → ((a : A) (b : B) → ((n : ℕ) → R n a b) → S a b) → (x : Option A) (y : Option B) → ((n : ℕ) → Both (R n) x y) → Both S x y
+both_all : {A B : Type 0} (R : ℕ → A → B → Type 0) (S : A → B → Type 0) → ((a : A) (b : B) → ((n : ℕ) → R n a b) → S a b)
+    → (x : Option A) (y : Option B) → ((n : ℕ) → Both (R n) x y) → Both S x y
 both_all R S f None None h = tt
 both_all R S f (Some x) (Some y) h = f x y h
 both_all R S f None (Some y) h = h 0
@@ -28,7 +30,8 @@ module _ {L K : Parts} (l : Language L) (k : Language K) (link : Linking L K) wh
   arm_all : (scope : Scope L) (a : L.Pattern × L.Expr) (b : K.Pattern × K.Expr) → ((n : ℕ) → ArmAs (to n) scope a b) → ArmAs all scope a b
   arm_all scope a b h = (λ n. (h n).0, λ n. (h n).1)
 
-  branch_all : (scope : Scope L) (a : L.Expr × L.Body) (b : K.Expr × K.Body) → ((n : ℕ) → BranchAs (to n) scope a b) → BranchAs all scope a b
+  branch_all : (scope : Scope L) (a : L.Expr × L.Body) (b : K.Expr × K.Body) → ((n : ℕ) → BranchAs (to n) scope a b)
+      → BranchAs all scope a b
   branch_all scope a b h = (λ n. (h n).0, λ n. (h n).1)
 
   pub expr_all : (scope : Scope L) (e : ExprNode L) (d : ExprNode K) → ((n : ℕ) → ExprNodeAs (to n) scope e d) → ExprNodeAs all scope e d
@@ -44,7 +47,8 @@ module _ {L K : Parts} (l : Language L) (k : Language K) (link : Linking L K) wh
   expr_all scope (If more b) (If others c) h = (each_all (λ n. BranchAs (to n) scope) (BranchAs all scope) (branch_all scope) more others (λ n. (h n).0), λ n. (h n).1)
   expr_all scope _ _ h = absurd (h 0)
 
-  pub statements_all : (scope : Scope L) (ss : List (StmtNode L)) (ts : List (StmtNode K)) → ((n : ℕ) → StatementsAs (to n) scope ss ts) → StatementsAs all scope ss ts
+  pub statements_all : (scope : Scope L) (ss : List (StmtNode L)) (ts : List (StmtNode K)) → ((n : ℕ) → StatementsAs (to n) scope ss ts)
+      → StatementsAs all scope ss ts
   statements_all scope [] [] h = tt
   statements_all scope (Let p e ∷ more) (Let q d ∷ others) h = (λ n. (h n).0, λ n. (h n).1, statements_all (with_marks (link.marks p) scope) more others (λ n. (h n).2))
   statements_all scope (Functions fs ∷ more) (Functions gs ∷ others) h =
@@ -59,5 +63,6 @@ module _ {L K : Parts} (l : Language L) (k : Language K) (link : Linking L K) wh
   statements_all scope (s ∷ more) [] h = absurd (goes_on (to 0) scope s more (h 0))
   statements_all scope _ _ h = absurd (h 0)
 
-  pub abstraction_all : (scope : Scope L) (f : Option (L.Pattern × L.Expr)) (g : Option (K.Pattern × K.Expr)) → ((n : ℕ) → Both (ArmAs (to n) scope) f g) → Both (ArmAs all scope) f g
+  pub abstraction_all : (scope : Scope L) (f : Option (L.Pattern × L.Expr)) (g : Option (K.Pattern × K.Expr))
+      → ((n : ℕ) → Both (ArmAs (to n) scope) f g) → Both (ArmAs all scope) f g
   abstraction_all scope f g h = both_all (λ n. ArmAs (to n) scope) (ArmAs all scope) (arm_all scope) f g h

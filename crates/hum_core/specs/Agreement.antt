@@ -57,11 +57,12 @@ slot_of (Many ms ∷ rest) x = in_group (place ms x) (slot_of rest x)
 abbrev pub Names : Type 0
 Names = List Name
 
--- the names that a pattern binds, the newest first
-abbrev pub joined : List Names → Names
+-- the later list in front
+abbrev pub joined : {X : Type 0} → List (List X) → List X
 joined [] = []
-joined (names ∷ more) = joined more ++ names
+joined (xs ∷ more) = joined more ++ xs
 
+-- the names that a pattern binds, the newest first
 abbrev pub names_node : Pat-F (Unit {0}) Names (Unit {0}) (Unit {0}) (Unit {0}) → Names
 names_node (layer.Bind x) = x ∷ []
 names_node (layer.Pat::Tuple names) = joined names

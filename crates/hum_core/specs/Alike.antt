@@ -103,15 +103,19 @@ mutual
   pub data Alike {L K : Parts} (r : Reading L K) : Value L → Value K → Type 0 where
     plain_as : (a : Atom) → Alike r (Plain a) (Plain a)
     pair_as : {a b : Value L} {c d : Value K} → Alike r a c → Alike r b d → Alike r (Pair a b) (Pair c d)
-    function_as : {f : L.Abstraction} {g : K.Abstraction} {env : Env L} {env' : Env K} → r.AbstractionAs (scope_of env) f g → AlikeEnv r env env' → Alike r (Function f env) (Function g env')
-    block_as : {b : L.Body} {c : K.Body} {env : Env L} {env' : Env K} → r.BodyAs (scope_of env) b c → AlikeEnv r env env' → Alike r (Block b env) (Block c env')
+    function_as : {f : L.Abstraction} {g : K.Abstraction} {env : Env L} {env' : Env K} → r.AbstractionAs (scope_of env) f g
+        → AlikeEnv r env env' → Alike r (Function f env) (Function g env')
+    block_as : {b : L.Body} {c : K.Body} {env : Env L} {env' : Env K} → r.BodyAs (scope_of env) b c → AlikeEnv r env env'
+        → Alike r (Block b env) (Block c env')
     primitive_as : (b : BuiltIn) → Alike r (Primitive b) (Primitive b)
 
   -- entry by entry
   pub data AlikeEnv {L K : Parts} (r : Reading L K) : Env L → Env K → Type 0 where
     outside_as : AlikeEnv r Outside Outside
-    bind_as : {m : L.Mark} {n : K.Mark} {v : Value L} {w : Value K} {env : Env L} {env' : Env K} → Alike r v w → AlikeEnv r env env' → AlikeEnv r (Bind m v env) (Bind n w env')
-    group_as : {fs : List (L.Mark × L.Abstraction)} {gs : List (K.Mark × K.Abstraction)} {env : Env L} {env' : Env K} → Each (MemberAs r (grouped fs (scope_of env))) fs gs → AlikeEnv r env env' → AlikeEnv r (Group fs env) (Group gs env')
+    bind_as : {m : L.Mark} {n : K.Mark} {v : Value L} {w : Value K} {env : Env L} {env' : Env K} → Alike r v w → AlikeEnv r env env'
+        → AlikeEnv r (Bind m v env) (Bind n w env')
+    group_as : {fs : List (L.Mark × L.Abstraction)} {gs : List (K.Mark × K.Abstraction)} {env : Env L} {env' : Env K}
+        → Each (MemberAs r (grouped fs (scope_of env))) fs gs → AlikeEnv r env env' → AlikeEnv r (Group fs env) (Group gs env')
 
 -- ---- effects and outcomes
 

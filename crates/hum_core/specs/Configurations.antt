@@ -1,5 +1,5 @@
 -- When configurations and deliveries of two languages are alike.
-use Rattle.std.specs.Prelude.{◌≡◌, ℕ, List}
+use Rattle.std.specs.Prelude.{◌≡◌, ℕ}
 use Rattle.hum_meaning.specs.Value.{Parts, Behaviour, Device, Answers}
 use Rattle.hum_meaning.specs.Language.{Language}
 use Rattle.hum_meaning.specs.Deliver.{Message, Configuration, Delivery, Committed, Failed, Open, deliver}

@@ -1,5 +1,5 @@
 -- How a pattern stands for a list of tests.
-use Rattle.std.specs.Prelude.{◌≡◌, ℕ, zero, suc, List, [], ◌∷◌, ◌++◌}
+use Rattle.std.specs.Prelude.{◌≡◌, ℕ, zero, suc, List, [], ◌∷◌}
 use Rattle.hum_core.specs.declared.resolved.CoreUnit.{CoreUnit}
 use Rattle.hum_core.specs.declared.resolved.CoreExpr.{CoreExpr}
 use Rattle.hum_core.specs.declared.resolved.CorePat.{CorePat, out-CorePat, fold-CorePat}
@@ -16,7 +16,7 @@ use Rattle.hum_core.specs.Alike.{Scope, Reading}
 use Rattle.hum_core.specs.Reading.{Linking, whole_reading}
 use Rattle.hum_core.specs.CoreTrees.{Core, core_language}
 use Rattle.hum_core.specs.TestLists.{Tests, tests_language}
-use Rattle.hum_core.specs.Agreement.{NumberedPat}
+use Rattle.hum_core.specs.Agreement.{joined, NumberedPat}
 
 -- ---- tests and the values that they take
 
@@ -45,10 +45,6 @@ other_values ts = (split ts 1).1
 -- one mark for each name that a pattern binds
 abbrev pub Marks : Type 0
 Marks = List (Unit {0})
-
-abbrev pub joined : List Marks → Marks
-joined [] = []
-joined (marks ∷ more) = joined more ++ marks
 
 abbrev pub marks_node : CorePat-F (Unit {0}) Marks (Unit {0}) (Unit {0}) → Marks
 marks_node core.Bind = tt ∷ []

@@ -65,7 +65,8 @@ module _ (eval : Evaluator Tests) where
     equals v w es
 
   -- one test of a value, over the values that are left behind it
-  abbrev pub one_test : Test-F Test TestExpr TestArm TestBranch → Value Tests → List (Value Tests) → Env Tests → List (Entry Tests) → Rest → Action Tests (Matched Tests)
+  abbrev pub one_test : Test-F Test TestExpr TestArm TestBranch → Value Tests → List (Value Tests) → Env Tests → List (Entry Tests) → Rest
+      → Action Tests (Matched Tests)
   one_test layer.Pair v vs env es rest = if_pair v (λ head tail. rest (head ∷ tail ∷ vs) es)
   one_test (layer.Test::Is c) v vs env es rest = equals v (Plain (atom_of c)) es >>= (λ m. if_matched m (rest vs) (pure None))
   one_test (layer.Same e) v vs env es rest = test_value e v env es >>= (λ m. if_matched m (rest vs) (pure None))

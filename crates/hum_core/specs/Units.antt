@@ -5,6 +5,7 @@ use Rattle.hum_syntax.specs.declared.tree.Expr.TheOpen.{Expr-F, Pat-F, Stmt-F, A
 use Rattle.hum_syntax.specs.declared.tree.Expr.TheOpen as layer
 use Rattle.hum_meaning.specs.Named.{Name, written}
 use Rattle.hum_meaning.specs.Look.{outermost}
+use Rattle.hum_meaning.specs.Scope.{Binds, Function, Values, Nothing, grouped_after}
 use Rattle.hum_core.specs.declared.slot.Slot.{Slot}
 use Rattle.hum_core.specs.declared.slot.Const.{Const}
 use Rattle.hum_core.specs.declared.slot.Const.TheVariants as const
@@ -70,12 +71,6 @@ pub record OfPat : Type 0 where
   pub names : Names
   pub part : Part CorePat
 
--- what a statement binds: a function, which is seen in its stretch; values or an actor; or nothing
-pub data Binds : Type 0 where
-  Function : Names → Binds
-  Values : Names → Binds
-  Nothing : Binds
-
 pub record OfStmt : Type 0 where
   pub binds : Binds
   pub part : Part CoreStmt
@@ -108,11 +103,6 @@ scope_at _ grouped fs scope = scope
 abbrev pub scope_after : Binds → Scope → Scope
 scope_after (Values names) scope = with_marks names scope
 scope_after _ scope = scope
-
-abbrev pub grouped_after : Binds → (grouped : Bool) → Bool
-grouped_after (Function names) grouped = true
-grouped_after (Values names) grouped = false
-grouped_after Nothing grouped = grouped
 
 abbrev pub statements : (grouped : Bool) → List OfStmt → Scope → ℕ → List CoreStmt × List CoreUnit
 statements grouped [] scope n = ([], [])

@@ -39,18 +39,21 @@ module _ {L : Parts} {A : Type 0} where
 -- ---- one after the other
 
 module _ {L : Parts} {A B : Type 0} (s j d : ℕ) where
-  last_holds : (t : ℕ) (o' : Outcome L A) (g : A → Action L B) (r' : Outcome L B) → t ≤ s → (s < d → and_then o' g ≡ r') → (r : Outcome L B) → Holds t j d r r' → Holds s j d r (and_then o' g)
+  last_holds : (t : ℕ) (o' : Outcome L A) (g : A → Action L B) (r' : Outcome L B) → t ≤ s → (s < d → and_then o' g ≡ r')
+      → (r : Outcome L B) → Holds t j d r r' → Holds s j d r (and_then o' g)
   last_holds t o' g r' le is (Gives b e' u) h = (omega (arith, le, h.0), λ lt. is lt ∙ h.1 (omega (arith, le, lt)))
   last_holds t o' g r' le is (Fails c n) h = λ lt. is lt ∙ h (omega (arith, le, lt))
   last_holds t o' g r' le is Undecided h = tt
 
-  then_holds : (o o' : Outcome L A) (f g : A → Action L B) → Holds s j d o o' → ((a : A) → Agrees d (f a) (g a)) → Holds s j d (and_then o f) (and_then o' g)
+  then_holds : (o o' : Outcome L A) (f g : A → Action L B) → Holds s j d o o' → ((a : A) → Agrees d (f a) (g a))
+      → Holds s j d (and_then o f) (and_then o' g)
   then_holds (Gives a e t) o' f g h k = last_holds t o' g (g a e (t + j)) h.0 (λ lt. ap (λ x. and_then x g) (h.1 lt)) (f a e t) ((k a).at e t j)
   then_holds (Fails c n) o' f g h k = λ lt. ap (λ x. and_then x g) (h lt)
   then_holds Undecided o' f g h k = tt
 
 module _ {L : Parts} {A B : Type 0} where
-  pub bind_agrees : (d : ℕ) {p q : Action L A} {f g : A → Action L B} → Agrees d p q → ((a : A) → Agrees d (f a) (g a)) → Agrees d (p >>= f) (q >>= g)
+  pub bind_agrees : (d : ℕ) {p q : Action L A} {f g : A → Action L B} → Agrees d p q → ((a : A) → Agrees d (f a) (g a))
+      → Agrees d (p >>= f) (q >>= g)
   bind_agrees d {p} {q} {f} {g} h k = record { at = λ e s j. then_holds s j d (p e s) (q e (s + j)) f g (h.at e s j) k }
 
 -- ---- steps
@@ -61,7 +64,8 @@ module _ {L : Parts} {A : Type 0} where
   later_holds d s j (Fails c n) o' h = λ lt. h (omega (arith, lt))
   later_holds d s j Undecided o' h = tt
 
-  spent : (d : ℕ) (p q : Action L A) (e : Effects L) (s j : ℕ) → Agrees (pred d) p q → Holds s j d (and_then (spend e s) (λ _. p)) (and_then (spend e (s + j)) (λ _. q))
+  spent : (d : ℕ) (p q : Action L A) (e : Effects L) (s j : ℕ) → Agrees (pred d) p q
+      → Holds s j d (and_then (spend e s) (λ _. p)) (and_then (spend e (s + j)) (λ _. q))
   spent d p q e zero j h = tt
   spent d p q e (suc s) j h = let same : suc s + j ≡ suc (s + j) = omega arith in rw same (later_holds d s j (p e s) (q e (s + j)) (h.at e s j))
 
@@ -84,7 +88,8 @@ module _ {L : Parts} where
   pub send_agrees : (d n : ℕ) (v : Value L) → Agrees d (send n v) (send n v)
   send_agrees d n v = record { at = λ e s j. (omega arith, λ lt. refl) }
 
-  becoming_holds : (d : ℕ) (o : Option (Value L)) (v : Value L) (e : Effects L) (s j : ℕ) → Holds s j d (becoming o v e s) (becoming o v e (s + j))
+  becoming_holds : (d : ℕ) (o : Option (Value L)) (v : Value L) (e : Effects L) (s j : ℕ)
+      → Holds s j d (becoming o v e s) (becoming o v e (s + j))
   becoming_holds d None v e s j = (omega arith, λ lt. refl)
   becoming_holds d (Some w) v e s j = λ lt. refl
 

@@ -1,5 +1,5 @@
 -- The scope rule has one verdict for each name.
-use Rattle.std.proofs.Common.{◌≡◌, refl, ap, sym, subst, ◌∙◌, ℕ, suc, Bool, false, List, [], ◌∷◌, ◌++◌, map, length, Option, Some, None, arith, length-append}
+use Rattle.std.proofs.Common.{◌≡◌, refl, ap, sym, subst, ◌∙◌, suc, Bool, false, List, [], ◌∷◌, ◌++◌, map, length, arith, length-append}
 use Rattle.hum_syntax.specs.declared.tree.Expr.{Expr}
 use Rattle.hum_syntax.specs.declared.tree.Pat.{Pat}
 use Rattle.hum_syntax.specs.declared.tree.Stmt.{Stmt}
@@ -10,7 +10,7 @@ use Rattle.std.proofs.lemmas.List.Folds.{flat_map-map}
 use Rattle.hum_syntax.proofs.Folding as folds
 use Rattle.hum_syntax.proofs.Folding.{Steps}
 use Rattle.hum_syntax.proofs.Induction.{Each, nodes, Cases, each_stmt, nodes-each_stmt}
-use Rattle.hum_meaning.specs.Scope.{Names, Verdicts, Place, fresh, behind, OfExpr, OfPat, OfStmt, Part, names_of, grouped_after, in_block, block, in_all, exprs, item_names, items, of_expr, of_pat, of_stmt, of_arm, of_branch, outermost_scope, verdicts}
+use Rattle.hum_meaning.specs.Scope.{Names, Verdicts, Place, fresh, behind, OfExpr, OfPat, OfStmt, Part, in_block, in_all, exprs, items, of_expr, of_pat, of_stmt, of_arm, of_branch, outermost_scope}
 use Rattle.hum_meaning.specs.Laws.{EachNameIsJudged}
 
 abbrev judging : Steps OfExpr OfPat OfStmt Part Part
@@ -66,7 +66,8 @@ two us vs ns ms h k = beside us (vs ++ []) ns ms h (alone vs ms k)
 
 -- ---- lists of nodes
 
-exprs_fit : (xs : Each E) (seen : Names) → Fits (exprs (map (folds.of_expr judging) (nodes xs)) seen) (joined (map names_of_expr (nodes xs)))
+exprs_fit : (xs : Each E) (seen : Names) → Fits (exprs (map (folds.of_expr judging) (nodes xs)) seen)
+    (joined (map names_of_expr (nodes xs)))
 exprs_fit [] seen = refl
 exprs_fit (x ∷ xs) seen = beside _ _ (names_of_expr x.0) _ (x.1 seen) (exprs_fit xs seen)
 
@@ -74,7 +75,8 @@ pats_fit : (xs : Each P) (place : Place) → Fits (items (map (folds.of_pat judg
 pats_fit [] place = refl
 pats_fit (x ∷ xs) place = beside _ _ (names_of_pat x.0) _ (x.1 place) (pats_fit xs (behind (folds.of_pat judging x.0).names place))
 
-stmts_fit : (xs : Each S) (outer taken : Names) (grouped : Bool) → Fits (in_block outer taken grouped (map (folds.of_stmt judging) (nodes xs))) (joined (map names_of_stmt (nodes xs)))
+stmts_fit : (xs : Each S) (outer taken : Names) (grouped : Bool)
+    → Fits (in_block outer taken grouped (map (folds.of_stmt judging) (nodes xs))) (joined (map names_of_stmt (nodes xs)))
 stmts_fit [] outer taken grouped = refl
 stmts_fit (x ∷ xs) outer taken grouped = beside _ _ (names_of_stmt x.0) _ (x.1 _) (stmts_fit xs outer _ _)
 
@@ -83,7 +85,8 @@ arms_fit [] seen = refl
 arms_fit (x ∷ xs) seen = beside _ _ (names_of_arm x.0) _ (x.1 seen) (arms_fit xs seen)
 
 -- the branches of an `IF`, and what follows
-branches_fit : (xs : Each B) (rest : List Part) (ns : AllNames) (seen : Names) → Fits (in_all rest seen) ns → Fits (in_all (map (folds.of_branch judging) (nodes xs) ++ rest) seen) (joined (map names_of_branch (nodes xs)) ++ ns)
+branches_fit : (xs : Each B) (rest : List Part) (ns : AllNames) (seen : Names) → Fits (in_all rest seen) ns
+    → Fits (in_all (map (folds.of_branch judging) (nodes xs) ++ rest) seen) (joined (map names_of_branch (nodes xs)) ++ ns)
 branches_fit [] rest ns seen h = h
 branches_fit (x ∷ xs) rest ns seen h =
     let others = joined (map names_of_branch (nodes xs)) in
@@ -99,7 +102,8 @@ branches_fit (x ∷ xs) rest ns seen h =
       more,
     )
 
-only_branches_fit : (xs : Each B) (seen : Names) → Fits (in_all (map (folds.of_branch judging) (nodes xs)) seen) (joined (map names_of_branch (nodes xs)))
+only_branches_fit : (xs : Each B) (seen : Names) → Fits (in_all (map (folds.of_branch judging) (nodes xs)) seen)
+    (joined (map names_of_branch (nodes xs)))
 only_branches_fit [] seen = refl
 only_branches_fit (x ∷ xs) seen = beside _ _ (names_of_branch x.0) _ (x.1 seen) (only_branches_fit xs seen)
 
@@ -124,7 +128,7 @@ cases = record {
   at_case = λ a xs h. by ExprFits _ _ _ _ (folds.fold_case judging a (nodes xs)) (folds.fold_case naming a (nodes xs)) (λ seen. beside _ _ (names_of_expr a) _ (h seen) (arms_fit xs seen));
   at_if = λ xs. by ExprFits _ _ _ _ (folds.fold_if judging (nodes xs)) (folds.fold_if naming (nodes xs)) (λ seen. only_branches_fit xs seen);
   at_if_else = λ xs ys. by ExprFits _ _ _ _ (folds.fold_if_else judging (nodes xs) (nodes ys)) (folds.fold_if_else naming (nodes xs) (nodes ys))
-    (λ seen. branches_fit xs _ _ seen (alone _ (joined (map names_of_stmt (nodes ys))) (stmts_fit ys seen [] false)));
+      (λ seen. branches_fit xs _ _ seen (alone _ (joined (map names_of_stmt (nodes ys))) (stmts_fit ys seen [] false)));
   at_any = by PatFits _ _ _ _ (folds.fold_any judging) (folds.fold_any naming) (λ place. refl);
   at_bind = λ t. by PatFits _ _ _ _ (folds.fold_bind judging t) (folds.fold_bind naming t) (λ place. refl);
   at_pat_undef = by PatFits _ _ _ _ (folds.fold_pat_undef judging) (folds.fold_pat_undef naming) (λ place. refl);

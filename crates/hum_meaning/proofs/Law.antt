@@ -21,7 +21,8 @@ module _ {L : Parts} (d : ℕ) where
   same_agrees (Pair a b) (Pair c e) = step_keeps d (bind_agrees d (same_agrees a c) (elim [ true ↦ same_agrees b e | false ↦ pure_agrees d false ]))
   same_agrees _ _ = pure_agrees d false
 
-  on_pair_agrees : (f : Value L → Value L → Action L (Value L)) → ((a b : Value L) → Agrees d (f a b) (f a b)) → (v : Value L) → Agrees d (on_pair f v) (on_pair f v)
+  on_pair_agrees : (f : Value L → Value L → Action L (Value L)) → ((a b : Value L) → Agrees d (f a b) (f a b)) → (v : Value L)
+      → Agrees d (on_pair f v) (on_pair f v)
   on_pair_agrees f h (Pair a b) = h a b
   on_pair_agrees f h _ = fail_agrees d no_match
 
@@ -61,18 +62,21 @@ module _ {L : Parts} (d : ℕ) where
 -- ---- choices
 
 module _ {L : Parts} (d : ℕ) where
-  pub if_matched_agrees : {A : Type 0} (m : Matched L) (f g : List (Entry L) → Action L A) (p q : Action L A) → ((es : List (Entry L)) → Agrees d (f es) (g es)) → Agrees d p q → Agrees d (if_matched m f p) (if_matched m g q)
+  pub if_matched_agrees : {A : Type 0} (m : Matched L) (f g : List (Entry L) → Action L A) (p q : Action L A)
+      → ((es : List (Entry L)) → Agrees d (f es) (g es)) → Agrees d p q → Agrees d (if_matched m f p) (if_matched m g q)
   if_matched_agrees (Some es) f g p q h k = h es
   if_matched_agrees None f g p q h k = k
 
-  pub if_pair_agrees : (v : Value L) (f g : Value L → Value L → Action L (Matched L)) → ((a b : Value L) → Agrees d (f a b) (g a b)) → Agrees d (if_pair v f) (if_pair v g)
+  pub if_pair_agrees : (v : Value L) (f g : Value L → Value L → Action L (Matched L)) → ((a b : Value L) → Agrees d (f a b) (g a b))
+      → Agrees d (if_pair v f) (if_pair v g)
   if_pair_agrees (Pair a b) f g k = k a b
   if_pair_agrees _ f g k = pure_agrees d None
 
   pub equals_agrees : (v w : Value L) (es : List (Entry L)) → Agrees d (equals v w es) (equals v w es)
   equals_agrees v w es = bind_agrees d (same_agrees d v w) (λ r. pure_agrees d (keep_if r es))
 
-  if_true_agrees : {A : Type 0} (v : Value L) (p q p' q' : Action L A) → Agrees d p p' → Agrees d q q' → Agrees d (if_true v p q) (if_true v p' q')
+  if_true_agrees : {A : Type 0} (v : Value L) (p q p' q' : Action L A) → Agrees d p p' → Agrees d q q'
+      → Agrees d (if_true v p q) (if_true v p' q')
   if_true_agrees (Plain (Truth true)) p q p' q' h k = h
   if_true_agrees (Plain (Truth false)) p q p' q' h k = k
   if_true_agrees _ p q p' q' h k = fail_agrees d not_a_truth_value
@@ -112,7 +116,8 @@ module _ {L : Parts} (d : ℕ) (m m' : Meaning L) (h : Stands d m m') where
   arms_agrees [] v env = fail_agrees d no_match
   arms_agrees (a ∷ more) v env = bind_agrees d (h.matches a.0 v env []) (λ r. if_matched_agrees d r _ _ _ _ (λ es. h.eval a.1 (extend es env)) (arms_agrees more v env))
 
-  branches_agrees : (bs : List (L.Expr × L.Body)) (other : L.Body) (env : Env L) → Agrees d (branches m bs other env) (branches m' bs other env)
+  branches_agrees : (bs : List (L.Expr × L.Body)) (other : L.Body) (env : Env L)
+      → Agrees d (branches m bs other env) (branches m' bs other env)
   branches_agrees [] other env = pure_agrees d (Block other env)
   branches_agrees (b ∷ more) other env = bind_agrees d (h.eval b.0 env) (λ v. if_true_agrees d v _ _ _ _ (pure_agrees d (Block b.1 env)) (branches_agrees more other env))
 
@@ -126,7 +131,8 @@ module _ {L : Parts} (language : Language L) (self base d : ℕ) (m m' : Meaning
   apply_agrees (Primitive b) v = built_in_agrees d b v
   apply_agrees _ v = fail_agrees d not_a_function
 
-  eval_node_agrees : (e : ExprNode L) (env : Env L) → Agrees d (eval_node language self base m e env) (eval_node language self base m' e env)
+  eval_node_agrees : (e : ExprNode L) (env : Env L) → Agrees d (eval_node language self base m e env)
+      (eval_node language self base m' e env)
   eval_node_agrees (Is v) env = pure_agrees d v
   eval_node_agrees (Var r) env = found_agrees d (language.look env r)
   eval_node_agrees Myself env = pure_agrees d (Plain (Actor self))
@@ -139,7 +145,8 @@ module _ {L : Parts} (language : Language L) (self base d : ℕ) (m m' : Meaning
   eval_node_agrees (If bs other) env = branches_agrees d m m' h bs other env
 
 module _ {L : Parts} (base d : ℕ) (m m' : Meaning L) (h : Stands d m m') where
-  statement_agrees : (s : StmtNode L) (env : Env L) (r r' : Env L → Action L (Unit {0})) → ((env : Env L) → Agrees d (r env) (r' env)) → Agrees d (statement base m s env r) (statement base m' s env r')
+  statement_agrees : (s : StmtNode L) (env : Env L) (r r' : Env L → Action L (Unit {0})) → ((env : Env L) → Agrees d (r env) (r' env))
+      → Agrees d (statement base m s env r) (statement base m' s env r')
   statement_agrees (Let p e) env r r' k = bind_agrees d (h.eval e env) (λ v. bind_agrees d (h.matches p v env []) (λ o. if_matched_agrees d o _ _ _ _ (λ es. k (extend es env)) (fail_agrees d no_match)))
   statement_agrees (Functions fs) env r r' k = k (Group fs env)
   statement_agrees Defined env r r' k = k env
@@ -156,7 +163,8 @@ module _ {L : Parts} (base d : ℕ) (m m' : Meaning L) (h : Stands d m m') where
 -- ---- all levels
 
 module _ {L : Parts} (language : Language L) (lawful : Lawful language) (self base : ℕ) where
-  body_agrees : (d : ℕ) (m m' : Meaning L) → Stands (pred d) m m' → (ss : List (StmtNode L)) (env : Env L) → Agrees d (statements base m ss env) (statements base m' ss env)
+  body_agrees : (d : ℕ) (m m' : Meaning L) → Stands (pred d) m m' → (ss : List (StmtNode L)) (env : Env L)
+      → Agrees d (statements base m ss env) (statements base m' ss env)
   body_agrees d m m' h [] env = pure_agrees d tt
   body_agrees d m m' h (s ∷ more) env = step_agrees d (statement_agrees base (pred d) m m' h s env _ _ (statements_agrees base (pred d) m m' h more))
 
@@ -216,13 +224,15 @@ module _ {L : Parts} (language : Language L) (lawful : Lawful language) (self ba
   pub execute_stays : (b : L.Body) (env : Env L) (effects : Effects L) → Stays (execute language self base b env effects)
   execute_stays b env effects s j d = stays s j _ _ (((level_stands language lawful self base (suc s) (suc (s + j)) (suc s) (omega arith)).exec b env).at effects s j) d
 
-  between : (n m s : ℕ) → s < n → s < m → (e : L.Expr) (env : Env L) (effects : Effects L) → Holds s 0 (suc s) ((level language self base n).eval e env effects s) ((level language self base m).eval e env effects s)
+  between : (n m s : ℕ) → s < n → s < m → (e : L.Expr) (env : Env L) (effects : Effects L)
+      → Holds s 0 (suc s) ((level language self base n).eval e env effects s) ((level language self base m).eval e env effects s)
   between n m s a b e env effects =
       let same : s + 0 ≡ s = omega arith in
       subst (λ x. Holds s 0 (suc s) ((level language self base n).eval e env effects s) ((level language self base m).eval e env effects x)) same
       (((level_stands language lawful self base n m (suc s) b).eval e env).at effects s 0)
 
   -- the depth is no bound of its own
-  pub depth-is-enough : (n s : ℕ) (e : L.Expr) (env : Env L) (effects : Effects L) → s < n → (level language self base n).eval e env effects s ≡ evaluate language self base e env effects s
+  pub depth-is-enough : (n s : ℕ) (e : L.Expr) (env : Env L) (effects : Effects L) → s < n
+      → (level language self base n).eval e env effects s ≡ evaluate language self base e env effects s
   depth-is-enough n s e env effects lt =
       the_same s _ _ (between n (suc s) s lt (omega arith) e env effects) (between (suc s) n s (omega arith) lt e env effects)

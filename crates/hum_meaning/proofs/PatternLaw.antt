@@ -24,12 +24,14 @@ module _ {L : Parts} (d : ℕ) (m m' : Meaning L) (h : Stands (pred d) m m') whe
   pub value_agrees : (e : L.Expr) → MatchesAgree d (match_value m.eval e) (match_value m'.eval e)
   value_agrees e v env es = step_agrees d (bind_agrees (pred d) (h.eval e env) (λ w. equals_agrees (pred d) v w es))
 
-  pair_agrees : (p : L.Pattern) (r r' : Match L) → MatchesAgree (pred d) r r' → MatchesAgree d (match_pair m.matches p r) (match_pair m'.matches p r')
+  pair_agrees : (p : L.Pattern) (r r' : Match L) → MatchesAgree (pred d) r r'
+      → MatchesAgree d (match_pair m.matches p r) (match_pair m'.matches p r')
   pair_agrees p r r' k v env es =
       step_agrees d (if_pair_agrees (pred d) v _ _ (λ head tail. bind_agrees (pred d) (h.matches p head env es)
       (λ o. if_matched_agrees (pred d) o _ _ _ _ (λ es. k tail env es) (pure_agrees (pred d) None))))
 
-  items_agree : (p q : L.Pattern) (more : List L.Pattern) → MatchesAgree d (match_items m.matches p q more) (match_items m'.matches p q more)
+  items_agree : (p q : L.Pattern) (more : List L.Pattern) → MatchesAgree d (match_items m.matches p q more)
+      (match_items m'.matches p q more)
   items_agree p q [] = pair_agrees p _ _ (h.matches q)
   items_agree p q (r ∷ more) = pair_agrees p _ _ (λ v env es. fewer (pred d) d (omega arith) (items_agree q r more v env es))
 

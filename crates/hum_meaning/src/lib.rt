@@ -18,8 +18,8 @@ mod laws;
 
 pub use cause::ScopeCause;
 pub use laws::{
-    deliveries_stay, depth_is_enough, each_name_is_judged, evaluation_stays, execution_stays, journals_decide,
-    matching_stays,
+    deliveries_stay, depth_is_enough, each_name_is_judged, evaluation_stays, execution_stays,
+    journals_decide, matching_stays,
 };
 
 #[cfg(test)]

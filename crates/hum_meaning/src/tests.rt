@@ -1,8 +1,8 @@
 // Each law once: it has nothing to do.
 
 use crate::{
-    deliveries_stay, depth_is_enough, each_name_is_judged, evaluation_stays, execution_stays, journals_decide,
-    matching_stays,
+    deliveries_stay, depth_is_enough, each_name_is_judged, evaluation_stays, execution_stays,
+    journals_decide, matching_stays,
 };
 
 #[test]

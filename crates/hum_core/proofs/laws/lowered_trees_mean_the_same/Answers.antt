@@ -8,5 +8,6 @@ use Rattle.hum_core.proofs.laws.lowered_trees_mean_the_same.Goals as goal
 
 pub returns : goal.returns
 returns c = λ units tested. record {
-  trees = means_alike (Lowered units tested) (core_language units) (tests_language tested) (lowering_sound units tested)
-  ; deliveries = deliver_alike (Lowered units tested) (core_language units) (tests_language tested) (lowering_sound units tested) }
+  trees = means_alike (Lowered units tested) (core_language units) (tests_language tested) (lowering_sound units tested);
+  deliveries = deliver_alike (Lowered units tested) (core_language units) (tests_language tested) (lowering_sound units tested);
+}

@@ -8,5 +8,6 @@ use Rattle.hum_core.proofs.laws.resolved_trees_mean_the_same.Goals as goal
 
 pub returns : goal.returns
 returns c = λ units. record {
-  trees = means_alike (Resolution units) humus (core_language units) (resolution_sound units)
-  ; deliveries = deliver_alike (Resolution units) humus (core_language units) (resolution_sound units) }
+  trees = means_alike (Resolution units) humus (core_language units) (resolution_sound units);
+  deliveries = deliver_alike (Resolution units) humus (core_language units) (resolution_sound units);
+}
