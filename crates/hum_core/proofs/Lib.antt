@@ -13,4 +13,5 @@ pub mod Marks
 pub mod Lowered
 pub mod Texts
 pub mod Delivered
+pub mod Standing
 mod Examples

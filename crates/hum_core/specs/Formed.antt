@@ -7,6 +7,8 @@ use Rattle.hum_core.specs.declared.resolved.CoreStmt.{CoreStmt}
 use Rattle.hum_core.specs.declared.resolved.CoreStmt.TheVariants as stmt
 use Rattle.hum_core.specs.declared.resolved.CoreExpr.{CoreExpr, fold-CoreExpr}
 use Rattle.hum_core.specs.declared.resolved.CorePat.{CorePat, fold-CorePat}
+use Rattle.hum_core.specs.declared.resolved.CoreArm.{CoreArm, fold-CoreArm}
+use Rattle.hum_core.specs.declared.resolved.CoreBranch.{CoreBranch, fold-CoreBranch}
 use Rattle.hum_core.specs.declared.resolved.CoreExpr.TheOpen.{CoreExpr-F, CorePat-F, CoreArm-F, CoreBranch-F}
 use Rattle.hum_core.specs.declared.resolved.CoreExpr.TheOpen as layer
 
@@ -58,6 +60,12 @@ module _ (kinds : List Bool) where
 
   abbrev pub is_formed_pat : CorePat → Bool
   is_formed_pat = fold-CorePat Bool Bool Bool Bool expr_formed pat_formed arm_formed branch_formed
+
+  abbrev pub is_formed_arm : CoreArm → Bool
+  is_formed_arm = fold-CoreArm Bool Bool Bool Bool expr_formed pat_formed arm_formed branch_formed
+
+  abbrev pub is_formed_branch : CoreBranch → Bool
+  is_formed_branch = fold-CoreBranch Bool Bool Bool Bool expr_formed pat_formed arm_formed branch_formed
 
   abbrev pub is_formed_stmt : CoreStmt → Bool
   is_formed_stmt (stmt.Let p e) = is_formed_pat p && is_formed_expr e

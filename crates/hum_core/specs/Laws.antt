@@ -1,5 +1,5 @@
 -- What is so of the numbered languages.
-use Rattle.std.specs.Prelude.{ℕ, List}
+use Rattle.std.specs.Prelude.{◌≡◌, ℕ, true, List}
 use Rattle.hum_core.specs.declared.resolved.CoreUnit.{CoreUnit}
 use Rattle.hum_core.specs.declared.tested.TestUnit.{TestUnit}
 use Rattle.hum_meaning.specs.Value.{Parts, Env}
@@ -14,6 +14,11 @@ use Rattle.hum_core.specs.Reading.{MeanAlike}
 use Rattle.hum_core.specs.Agreement.{Resolution}
 use Rattle.hum_core.specs.Configurations.{DeliverAlike}
 use Rattle.hum_core.specs.Lowering.{Lowered}
+use Rattle.hum_core.specs.Formed.{are_formed}
+use Rattle.hum_core.specs.Lists.{tested}
+use Rattle.hum_core.specs.Numbered.{Code}
+use Rattle.hum_core.specs.CoreTrees.{Core}
+use Rattle.hum_core.specs.Alike.{Scope}
 
 -- what s steps decide of an expression or a body, s + j steps decide so, with j more steps left
 pub record DecisionsStay {L : Parts} (language : Language L) : Type 0 where
@@ -41,3 +46,11 @@ pub record LoweredMeansTheSame (units : List CoreUnit) (tested : List TestUnit) 
 
 abbrev pub LoweredTreesMeanTheSame : Type 0
 LoweredTreesMeanTheSame = (units : List CoreUnit) (tested : List TestUnit) → LoweredMeansTheSame units tested
+
+-- formed units stand for what they become with tests, each for the unit of its own number
+pub record StandForTests (units : List CoreUnit) : Type 0 where
+  pub bodies : (scope : Scope Core) (k : ℕ) → (Lowered units (tested units)).BodyAs scope k k
+  pub abstractions : (scope : Scope Core) (c : Code) → (Lowered units (tested units)).AbstractionAs scope c c
+
+abbrev pub FormedTreesStand : Type 0
+FormedTreesStand = (units : List CoreUnit) → are_formed units ≡ true → StandForTests units

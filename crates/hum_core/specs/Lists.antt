@@ -6,6 +6,8 @@ use Rattle.hum_core.specs.declared.resolved.CoreStmt.{CoreStmt}
 use Rattle.hum_core.specs.declared.resolved.CoreStmt.TheVariants as core_stmt
 use Rattle.hum_core.specs.declared.resolved.CoreExpr.{CoreExpr, fold-CoreExpr}
 use Rattle.hum_core.specs.declared.resolved.CorePat.{CorePat, fold-CorePat}
+use Rattle.hum_core.specs.declared.resolved.CoreArm.{CoreArm, fold-CoreArm}
+use Rattle.hum_core.specs.declared.resolved.CoreBranch.{CoreBranch, fold-CoreBranch}
 use Rattle.hum_core.specs.declared.resolved.CoreExpr.TheOpen.{CoreExpr-F, CorePat-F, CoreArm-F, CoreBranch-F}
 use Rattle.hum_core.specs.declared.resolved.CoreExpr.TheOpen as core
 use Rattle.hum_core.specs.declared.tested.TestUnit.{TestUnit}
@@ -60,6 +62,12 @@ tested_expr = fold-CoreExpr TestExpr (List Test) TestArm TestBranch expr_tested 
 
 abbrev pub tested_pat : CorePat → List Test
 tested_pat = fold-CorePat TestExpr (List Test) TestArm TestBranch expr_tested pat_tested arm_tested branch_tested
+
+abbrev pub tested_arm : CoreArm → TestArm
+tested_arm = fold-CoreArm TestExpr (List Test) TestArm TestBranch expr_tested pat_tested arm_tested branch_tested
+
+abbrev pub tested_branch : CoreBranch → TestBranch
+tested_branch = fold-CoreBranch TestExpr (List Test) TestArm TestBranch expr_tested pat_tested arm_tested branch_tested
 
 abbrev pub tested_stmt : CoreStmt → TestStmt
 tested_stmt (core_stmt.Let p e) = stmt.Let (tested_pat p) (tested_expr e)

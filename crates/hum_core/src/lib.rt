@@ -5,7 +5,8 @@
 //! (`hum_meaning`), and says when a numbered tree stands for a written one.
 //!
 //! The laws are functions without a body. What stands for one another means the same, for all numbers of steps:
-//! `resolved_trees_mean_the_same` and `lowered_trees_mean_the_same`. What some number of steps decides, every larger one decides so: `resolved_decisions_stay` and
+//! `resolved_trees_mean_the_same` and `lowered_trees_mean_the_same`. Formed trees stand for what they become with tests:
+//! `formed_trees_stand`. What some number of steps decides, every larger one decides so: `resolved_decisions_stay` and
 //! `tested_decisions_stay`.
 #![tactic(auto)]
 
@@ -15,8 +16,8 @@ mod slot;
 mod tested;
 
 pub use laws::{
-    lowered_trees_mean_the_same, resolved_decisions_stay, resolved_trees_mean_the_same,
-    tested_decisions_stay,
+    formed_trees_stand, lowered_trees_mean_the_same, resolved_decisions_stay,
+    resolved_trees_mean_the_same, tested_decisions_stay,
 };
 pub use resolved::{CoreArm, CoreBranch, CoreExpr, CorePat, CoreStmt, CoreUnit, Resolved};
 pub use slot::{Const, Slot};
