@@ -1,0 +1,12 @@
+pub mod Formed
+pub mod Numbered
+pub mod CoreTrees
+pub mod TestLists
+pub mod Alike
+pub mod Reading
+pub mod Agreement
+pub mod Configurations
+pub mod Lowering
+pub mod Lists
+pub mod Units
+pub mod Laws

@@ -1,0 +1,27 @@
+//! Numbered trees: what the compiler makes of a program's tree, and what they mean.
+//!
+//! In a numbered tree a use of a name is a `Slot`, and abstractions and blocks are units with numbers. In `Resolved` patterns are trees; in
+//! `Program` they are lists of tests. `specs/` gives both their meaning, by the same evaluator that gives a program its own
+//! (`hum_meaning`), and says when a numbered tree stands for a written one.
+//!
+//! The laws are functions without a body. What stands for one another means the same, for all numbers of steps:
+//! `resolved_trees_mean_the_same` and `lowered_trees_mean_the_same`. Formed trees stand for what they become with tests:
+//! `formed_trees_stand`. What some number of steps decides, every larger one decides so: `resolved_decisions_stay` and
+//! `tested_decisions_stay`.
+#![tactic(auto)]
+
+mod laws;
+mod resolved;
+mod slot;
+mod tested;
+
+pub use laws::{
+    formed_trees_stand, lowered_trees_mean_the_same, resolved_decisions_stay,
+    resolved_trees_mean_the_same, tested_decisions_stay,
+};
+pub use resolved::{CoreArm, CoreBranch, CoreExpr, CorePat, CoreStmt, CoreUnit, Resolved};
+pub use slot::{Const, Slot};
+pub use tested::{Program, Test, TestArm, TestBranch, TestExpr, TestStmt, TestUnit};
+
+#[cfg(test)]
+mod tests;

@@ -1,0 +1,38 @@
+// What is so of every program.
+
+ghost use Rattle.hum_meaning.specs.Laws.{EvaluationStays, MatchingStays, ExecutionStays, DepthIsEnough, DeliveriesStay, JournalsDecide, EachNameIsJudged};
+
+/// What s steps decide of an expression, s + j steps decide so, with j more steps left.
+pub fn evaluation_stays()
+    ensures { EvaluationStays }
+{}
+
+/// What s steps decide of a pattern and a value, s + j steps decide so, with j more steps left.
+pub fn matching_stays()
+    ensures { MatchingStays }
+{}
+
+/// What s steps decide of a block's statements, s + j steps decide so, with j more steps left.
+pub fn execution_stays()
+    ensures { ExecutionStays }
+{}
+
+/// At every depth above s the outcome of s steps is the same: a depth is no bound of its own.
+pub fn depth_is_enough()
+    ensures { DepthIsEnough }
+{}
+
+/// A delivery that s steps decide is the same for s + j steps.
+pub fn deliveries_stay()
+    ensures { DeliveriesStay }
+{}
+
+/// From the opening configuration of a file a journal leads to one configuration at most.
+pub fn journals_decide()
+    ensures { JournalsDecide }
+{}
+
+/// The scope rule has one verdict for each name of a file, in the order in which they are spelled.
+pub fn each_name_is_judged()
+    ensures { EachNameIsJudged }
+{}

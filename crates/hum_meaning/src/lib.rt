@@ -1,0 +1,26 @@
+//! What programs mean, as definitions that compute, with their laws. No call of a program.
+//!
+//! `specs/` defines, from the bottom up, values, environments and behaviours (`Value`), what an event gathers and how it ends (`Action`),
+//! comparison (`Same`) and the built-in functions (`BuiltIns`); then evaluation and execution over one node of a tree (`Eval`, `Exec`),
+//! whatever the trees are (`Language`), and within a number of steps (`Meaning`); then the language as it is written: its trees and names
+//! (`Named`), stretches of functions (`Body`), names in environments (`Look`) and patterns (`Match`, by the parts of `Pattern`); and at last what the devices write
+//! (`Piece`), the delivery of one message (`Deliver`) and the configuration after a journal (`After`).
+//!
+//! The laws are functions without a body. What some number of steps decides, every larger one decides so: `evaluation_stays`,
+//! `matching_stays`, `execution_stays` and `deliveries_stay`. So a journal leads to one configuration at most: `journals_decide`. And the
+//! depth to which the definitions go decides nothing: `depth_is_enough`. The scope rule (`Scope`) judges each name once: `each_name_is_judged`.
+//!
+//! Programs that are worked out by computation stand in `proofs/Examples.antt`.
+#![tactic(auto)]
+
+mod cause;
+mod laws;
+
+pub use cause::ScopeCause;
+pub use laws::{
+    deliveries_stay, depth_is_enough, each_name_is_judged, evaluation_stays, execution_stays,
+    journals_decide, matching_stays,
+};
+
+#[cfg(test)]
+mod tests;
