@@ -1,0 +1,19 @@
+-- What is told of a whole tree.
+use Rattle.std.specs.Prelude.{◌≡◌, ◌↔◌, ℕ, List, Option, Some, None, Result, Ok, Err}
+use Rattle.hum_syntax.specs.declared.tree.Stmt.{Stmt}
+use Rattle.hum_meaning.specs.declared.cause.ScopeCause.{ScopeCause}
+use Rattle.hum_meaning.specs.Scope.{Scoped, first_refused}
+use Rattle.hum_scope.specs.declared.refusal.ScopeError.{ScopeError}
+use Rattle.hum_scope.specs.declared.refusal.ScopeError.TheVariants.{NoMemory, Refused}
+
+-- the answer is the first refused name if there is one, and else that there is none, unless memory fails
+abbrev pub Told : Option (ℕ × ScopeCause) → Result (Unit {0}) ScopeError → Type 0
+Told None (Ok done) = Unit {0}
+Told None (Err (Refused r)) = ⊥
+Told None (Err NoMemory) = Unit {0}
+Told (Some first) (Ok done) = ⊥
+Told (Some first) (Err (Refused r)) = first ≡ (r.at, r.cause)
+Told (Some first) (Err NoMemory) = Unit {0}
+
+abbrev pub ScopedTreesHaveNoRefusedName : Type 0
+ScopedTreesHaveNoRefusedName = (file : List Stmt) → Scoped file ↔ (first_refused file ≡ None)
