@@ -1,6 +1,6 @@
 // The walk over a tree, which judges each name in order.
 
-ghost use Rattle.std.specs.Prelude.{◌≡◌, ◌≤◌, ◌-◌, ◌∷◌, ◌++◌, [], length, map, take, Ok, OnOk, IfOk, Option, Some};
+ghost use Rattle.std.specs.Prelude.{◌≡◌, ◌≤◌, ◌-◌, ◌∷◌, ◌++◌, [], length, map, take, Ok, OnOk};
 ghost use Rattle.hum_meaning.specs.Scope as spec;
 ghost use Rattle.hum_meaning.specs.Scope.{found_of_stmt};
 ghost use Rattle.hum_scope.specs.Walks as walks;
