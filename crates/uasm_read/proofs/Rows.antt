@@ -44,7 +44,7 @@ row_label_at_end : refused (codes "debug\na: ; nothing follows\n\n.export a") (a
 unfolding assembling
 row_label_at_end = refl
 
-row_label_before_bad : refused (codes "end stop\na:\nb:\npush") (at cause.BadLine)
+row_label_before_bad : refused (codes "end stop\na:\nb:\npush") (Err (record { line = 4; cause = cause.BadOperand }))
 unfolding assembling
 row_label_before_bad = refl
 

@@ -7,7 +7,7 @@ use Rattle.uasm_read.specs.declared.error.UasmCause.{UasmCause}
 use Rattle.uasm_read.specs.declared.line.Line.{Line}
 use Rattle.uasm_read.specs.declared.line.Line.TheVariants.{Blank, Import, Export, Label, Instruction, Next, Cell, Bad}
 use Rattle.uasm_read.specs.Texts.{Name, has_name}
-use Rattle.uasm_read.specs.Faults.{defined_by, defined_in, used_by, refused_or, first, is_item, follows_after, follows_instruction, fault_by, line_fault, unknown_by}
+use Rattle.uasm_read.specs.Faults.{defined_by, defined_in, used_by, refused_or, first, may_be_item, follows_after, follows_instruction, fault_by, line_fault, unknown_by}
 use Rattle.uasm_read.specs.Reading.{items_among}
 use Rattle.std.proofs.lemmas.Bool.Decides.{nat_tests}
 use Rattle.std.proofs.lemmas.List.Folds.{list_any-append}
@@ -65,26 +65,26 @@ any_cases true n some e = grind (arith, nat_tests)
 any_cases false n some e = e ∙ ap (nat_lt 0) (let z : n ≡ 0 + n = omega arith in z)
 
 -- one stands there exactly where their number is not 0
-any_counted : (lines : List Line) → list_any is_item lines ≡ nat_lt 0 (items_among lines)
+any_counted : (lines : List Line) → list_any may_be_item lines ≡ nat_lt 0 (items_among lines)
 any_counted [] = refl
-any_counted (line ∷ lines) = any_cases (is_item line) (items_among lines) (list_any is_item lines) (any_counted lines)
+any_counted (line ∷ lines) = any_cases (may_be_item line) (items_among lines) (list_any may_be_item lines) (any_counted lines)
 
 -- what the walk asks of a line is what the definition asks
 pub checked_test : (lines : List Line) (line : Line) (more : List Line) (at : ℕ) (stands : Name → Bool) (follows : Bool) (left : ℕ)
     (k : Checked lines (line ∷ more) at stands follows left)
-    → fault_by stands follows (nat_lt 0 (left - (if is_item line then 1 else 0))) line ≡ line_fault k.searched.before line more
+    → fault_by stands follows (nat_lt 0 (left - (if may_be_item line then 1 else 0))) line ≡ line_fault k.searched.before line more
 checked_test lines line more at stands follows left k =
-    let counted : left - (if is_item line then 1 else 0) ≡ items_among more = omega (arith, k.counted) in
+    let counted : left - (if may_be_item line then 1 else 0) ≡ items_among more = omega (arith, k.counted) in
     ap (λ n. fault_by stands follows (nat_lt 0 n) line) counted
     ∙ ap (λ b. fault_by stands follows b line) (sym (any_counted more))
-    ∙ ap (λ b. fault_by stands b (list_any is_item more) line) k.instruction
-    ∙ fault_same stands (has_name (defined_in k.searched.before)) k.names (follows_instruction k.searched.before) (list_any is_item more) line
+    ∙ ap (λ b. fault_by stands b (list_any may_be_item more) line) k.instruction
+    ∙ fault_same stands (has_name (defined_in k.searched.before)) k.names (follows_instruction k.searched.before) (list_any may_be_item more) line
 
 pub checked_on : (lines : List Line) (line : Line) (more : List Line) (at : ℕ) (stands others : Name → Bool) (follows : Bool) (left : ℕ)
     (k : Checked lines (line ∷ more) at stands follows left)
     → line_fault k.searched.before line more ≡ None
     → ((name : Name) → others name ≡ (has_name (defined_by line) name || stands name))
-    → Checked lines more (at + 1) others (follows_after line follows) (left - (if is_item line then 1 else 0))
+    → Checked lines more (at + 1) others (follows_after line follows) (left - (if may_be_item line then 1 else 0))
 unfolding follows_instruction defined_in went_on
 checked_on lines line more at stands others follows left k none names = record {
   searched = went_on line_fault lines line more at k.searched none;

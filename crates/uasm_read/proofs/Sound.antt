@@ -19,7 +19,7 @@ use Rattle.uasm_read.specs.declared.line.Line.TheVariants.{Blank, Import, Export
 use Rattle.uasm_read.specs.Texts.{Bytes, Name, is_name, has_name}
 use Rattle.uasm_read.specs.Operations.{row_of, goes_on}
 use Rattle.uasm_read.specs.Lines.{line_of}
-use Rattle.uasm_read.specs.Faults.{labels_of, imports_of, exports_of, defined_in, used_by, refused_or, first, fault_if, is_item, line_fault, name_unknown, next_named, instruction_follows, falls_off, refusal}
+use Rattle.uasm_read.specs.Faults.{labels_of, imports_of, exports_of, defined_in, used_by, refused_or, first, fault_if, may_be_item, line_fault, name_unknown, next_named, instruction_follows, falls_off, refusal}
 use Rattle.uasm_read.specs.Modules.{is_word, names_in, fits, begins_with_instruction, is_cell, are_items, labels_in, used_in, are_different, are_apart, is_module}
 use Rattle.uasm_read.specs.Assembles.{next_word, items_of, module_of}
 use Rattle.uasm_read.proofs.Searches.{Test}
@@ -134,7 +134,7 @@ label_ends true o h = (refl, h)
 label_ends false o h = absurd (let e : Some cause.BadLine ≡ None = h in cc)
 
 -- the labels of the items are those of the lines
-labels_same : (labels : List Name) (before lines : List Line) → first line_fault before lines ≡ None → (list_any is_item lines ≡ false → labels ≡ []) → labels_in (items_of labels lines) ≡ labels ++ labels_of lines
+labels_same : (labels : List Name) (before lines : List Line) → first line_fault before lines ≡ None → (list_any may_be_item lines ≡ false → labels ≡ []) → labels_in (items_of labels lines) ≡ labels ++ labels_of lines
 unfolding items_of labels_of
 labels_same labels before [] none ends = rw (ends refl) refl
 labels_same labels before (Blank ∷ lines) none ends = labels_same labels (Blank ∷ before) lines (first_none line_fault before Blank lines none).1 ends
@@ -142,7 +142,7 @@ labels_same labels before (Import name ∷ lines) none ends = labels_same labels
 labels_same labels before (Export name ∷ lines) none ends = labels_same labels (Export name ∷ before) lines (first_none line_fault before (Export name) lines none).1 ends
 labels_same labels before (Label name ∷ lines) none ends =
     let parts = first_none line_fault before (Label name) lines none in
-    let more = label_ends (list_any is_item lines) _ parts.0 in
+    let more = label_ends (list_any may_be_item lines) _ parts.0 in
     labels_same (labels ++ name ∷ []) (Label name ∷ before) lines parts.1 (λ no. absurd (let e : true ≡ false = sym more.0 ∙ no in cc)) ∙ append_assoc labels (name ∷ []) (labels_of lines)
 labels_same labels before (Instruction operation word ∷ lines) none ends =
     ap (λ rest. labels ++ rest) (labels_same [] (Instruction operation word ∷ before) lines (first_none line_fault before (Instruction operation word) lines none).1 (λ no. refl))
@@ -325,7 +325,7 @@ apart_of before (Import name ∷ lines) none =
 apart_of before (Export name ∷ lines) none = keep before (Export name ∷ before) lines (Export name ∷ lines) refl refl refl (apart_of (Export name ∷ before) lines (first_none line_fault before (Export name) lines none).1)
 apart_of before (Label name ∷ lines) none =
     let parts = first_none line_fault before (Label name) lines none in
-    let here : has_name (defined_in before) name ≡ false = not_refused _ cause.Twice (label_ends (list_any is_item lines) _ parts.0).1 in
+    let here : has_name (defined_in before) name ≡ false = not_refused _ cause.Twice (label_ends (list_any may_be_item lines) _ parts.0).1 in
     let a = apart_of (Label name ∷ before) lines parts.1 in
     let imports = absent (has_name (defined_in before)) name (imports_of lines) a.fresh_imports in
     let labels = absent (has_name (defined_in before)) name (labels_of lines) a.fresh_labels in

@@ -14,7 +14,7 @@ use Rattle.uasm_read.specs.declared.line.Line.{Line}
 use Rattle.uasm_read.specs.declared.line.Line.TheVariants.{Blank, Import, Export, Label, Instruction, Next, Cell, Bad}
 use Rattle.uasm_read.specs.Texts.{Name, is_name, has_name}
 use Rattle.uasm_read.specs.Modules.{ModuleParts, names_in, is_cell, are_items, labels_in, used_in, are_different, are_apart, is_module}
-use Rattle.uasm_read.specs.Faults.{label_of, import_of, export_of, defined_by, labels_of, imports_of, exports_of, defined_in, used_by, first, is_item, follows_after, follows_instruction, line_fault, name_unknown, falls_off, refusal}
+use Rattle.uasm_read.specs.Faults.{label_of, import_of, export_of, defined_by, labels_of, imports_of, exports_of, defined_in, used_by, first, may_be_item, follows_after, follows_instruction, line_fault, name_unknown, falls_off, refusal}
 use Rattle.uasm_read.specs.Assembles.{module_of, assembled_lines}
 use Rattle.uasm_read.specs.Writes.{cell_lines}
 use Rattle.uasm_read.proofs.Sound.{both, parted, neither, not_either, all_alike}
@@ -142,7 +142,7 @@ stand follows [] = true
 stand follows (Bad why ∷ lines) = false
 stand follows (Next None ∷ lines) = false
 stand follows (Next (Some name) ∷ lines) = follows && stand false lines
-stand follows (Label name ∷ lines) = list_any is_item lines && stand false lines
+stand follows (Label name ∷ lines) = list_any may_be_item lines && stand false lines
 stand follows (line ∷ lines) = stand (follows_after line follows) lines
 
 stand_seen : (cell : List Operand) (after : List Item) (lines : List Line) → Seen cell after lines → (more : List Line) → ((b : Bool) → stand b more ≡ true) → (b : Bool) → stand b (lines ++ more) ≡ true
@@ -151,19 +151,19 @@ stand_seen cell _ lines (names o y name after fit named) more h b = h false
 stand_seen cell _ lines (ends o y after stops fit) more h b = h true
 stand_seen cell _ lines (plain t x y z after ht hx hy hz) more h b = h false
 
-item_seen : (cell : List Operand) (after : List Item) (lines : List Line) → Seen cell after lines → (more : List Line) → list_any is_item (lines ++ more) ≡ true
+item_seen : (cell : List Operand) (after : List Item) (lines : List Line) → Seen cell after lines → (more : List Line) → list_any may_be_item (lines ++ more) ≡ true
 item_seen cell _ lines (goes o y after on fit begins) more = refl
 item_seen cell _ lines (names o y name after fit named) more = refl
 item_seen cell _ lines (ends o y after stops fit) more = refl
 item_seen cell _ lines (plain t x y z after ht hx hy hz) more = refl
 
-item_labels : (labels : List Name) (lines : List Line) → list_any is_item lines ≡ true → list_any is_item (map Label labels ++ lines) ≡ true
+item_labels : (labels : List Name) (lines : List Line) → list_any may_be_item lines ≡ true → list_any may_be_item (map Label labels ++ lines) ≡ true
 item_labels [] lines h = h
 item_labels (label ∷ labels) lines h = item_labels labels lines h
 
-stand_labels : (labels : List Name) (lines : List Line) → list_any is_item lines ≡ true → ((b : Bool) → stand b lines ≡ true) → (b : Bool) → stand b (map Label labels ++ lines) ≡ true
+stand_labels : (labels : List Name) (lines : List Line) → list_any may_be_item lines ≡ true → ((b : Bool) → stand b lines ≡ true) → (b : Bool) → stand b (map Label labels ++ lines) ≡ true
 stand_labels [] lines i h b = h b
-stand_labels (label ∷ labels) lines i h b = and_from (list_any is_item (map Label labels ++ lines)) _ (item_labels labels lines i) (stand_labels labels lines i h false)
+stand_labels (label ∷ labels) lines i h b = and_from (list_any may_be_item (map Label labels ++ lines)) _ (item_labels labels lines i) (stand_labels labels lines i h false)
 
 stand_items : (items : List Item) → are_items items ≡ true → (b : Bool) → stand b (lines_behind items) ≡ true
 stand_items [] h b = refl
@@ -224,7 +224,7 @@ clean follows before (Export name ∷ lines) f s d a = passed line_fault before 
 clean follows before (Label name ∷ lines) f s d a =
     let here = and_parts (not (has_name (defined_in before) name)) _ a in
     let other = and_parts (not (has_name (defined_in lines) name)) _ d in
-    let parts = and_parts (list_any is_item lines) _ s in
+    let parts = and_parts (list_any may_be_item lines) _ s in
     passed line_fault before (Label name) lines (rw parts.0 (does_not _ cause.Twice (is_false _ here.0)))
     (clean false (Label name ∷ before) lines refl parts.1 other.1 (apart_more (defined_in lines) name (defined_in before) other.0 here.1))
 clean follows before (Instruction o y ∷ lines) f s d a = passed line_fault before (Instruction o y) lines refl (clean true (Instruction o y ∷ before) lines refl s d a)

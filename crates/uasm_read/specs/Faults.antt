@@ -64,11 +64,12 @@ fault_if refused why = if refused then Some why else None
 
 -- ---- lines by themselves
 
--- the line has the form of an item
-abbrev pub is_item : Line → Bool
-is_item (Instruction operation operand) = true
-is_item (Cell t x y z) = true
-is_item line = false
+-- the line has the form of an item, or none: then it is refused itself, at its own place
+abbrev pub may_be_item : Line → Bool
+may_be_item (Instruction operation operand) = true
+may_be_item (Cell t x y z) = true
+may_be_item (Bad why) = true
+may_be_item line = false
 
 -- whether nothing but blanks stands behind an instruction, by the line and by whether that holds before it
 abbrev pub follows_after : Line → Bool → Bool
@@ -85,8 +86,8 @@ next_fault false name = Some cause.BadLine
 next_fault true None = Some cause.BadOperand
 next_fault true (Some name) = None
 
--- Why a line is refused whatever the names mean: it has no form; a `ref` that follows no instruction; a label that no line with the form of
--- an item follows; a label or import that stands before it already.
+-- Why a line is refused whatever the names mean: it has no form; a `ref` that follows no instruction; a label that neither a line with the
+-- form of an item nor one without a form follows; a label or import that stands before it already.
 abbrev pub fault_by : (Name → Bool) → Bool → Bool → Line → Option UasmCause
 fault_by stands follows_instruction item_follows (Bad why) = Some why
 fault_by stands follows_instruction item_follows (Next name) = next_fault follows_instruction name
@@ -95,7 +96,7 @@ fault_by stands follows_instruction item_follows (Import name) = fault_if (stand
 fault_by stands follows_instruction item_follows line = None
 
 abbrev pub line_fault : List Line → Line → List Line → Option UasmCause
-line_fault before line after = fault_by (has_name (defined_in before)) (follows_instruction before) (list_any is_item after) line
+line_fault before line after = fault_by (has_name (defined_in before)) (follows_instruction before) (list_any may_be_item after) line
 
 -- ---- names
 

@@ -11,7 +11,7 @@ use Rattle.uasm_read.specs.declared.faults.Which.{Which}
 use Rattle.uasm_read.specs.declared.faults.Which.TheVariants as which
 use Rattle.uasm_read.specs.declared.build.Directive.{Directive}
 use Rattle.uasm_read.specs.declared.build.Directive.TheVariants as directive
-use Rattle.uasm_read.specs.Faults.{label_of, import_of, export_of, defined_by, is_item}
+use Rattle.uasm_read.specs.Faults.{label_of, import_of, export_of, defined_by, may_be_item}
 use Rattle.uasm_read.specs.declared.texts.Class.{Class}
 use Rattle.uasm_read.specs.declared.texts.Class.TheVariants as class
 use Rattle.uasm_read.specs.Operations.{Shape, Value, Nothing, Within, Turn, Choice}
@@ -70,7 +70,7 @@ abbrev pub directed_by : Directive → Line → List Name
 directed_by directive.Imports line = import_of line
 directed_by directive.Exports line = export_of line
 
--- how many lines have the form of an item
+-- how many lines have the form of an item, or none
 abbrev pub items_among : List Line → ℕ
 items_among [] = 0
-items_among (line ∷ lines) = (if is_item line then 1 else 0) + items_among lines
+items_among (line ∷ lines) = (if may_be_item line then 1 else 0) + items_among lines

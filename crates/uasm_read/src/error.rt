@@ -8,8 +8,8 @@ pub enum UasmCause {
     /// The text has more than 1,048,576 bytes. Told at line 1.
     TooLong,
     /// The line has a byte that is not ASCII; its first part is neither a name nor `NAME:`, `.import` or `.export`; not one name alone stands
-    /// behind its directive; something stands behind its label; no line with the form of an item comes after its label; or it is a `ref`
-    /// line, and the last line before it that says something is no instruction line.
+    /// behind its directive; something stands behind its label; neither a line with the form of an item nor one without a form comes after
+    /// its label; or it is a `ref` line, and the last line before it that says something is no instruction line.
     BadLine,
     /// The first part is a name, but of no operation.
     NoOperation,

@@ -62,12 +62,13 @@ fn names_of<'a>(
     Ok(names)
 }
 
-fn is_item(line: &Line) -> bool
-    ensures { result ≡ spec.is_item line.now }
+fn may_be_item(line: &Line) -> bool
+    ensures { result ≡ spec.may_be_item line.now }
 {
     match line {
         Line::Instruction(_, _) => true,
         Line::Cell(_, _, _, _) => true,
+        Line::Bad(_) => true,
         _ => false,
     }
 }
@@ -161,7 +162,7 @@ fn count_items(lines: &[Line]) -> usize
     let mut rest = lines;
     let mut count = 0;
     while let [line, more @ ..] = rest {
-        if is_item(line) {
+        if may_be_item(line) {
             count += 1;
         }
         rest = more;
@@ -171,9 +172,9 @@ fn count_items(lines: &[Line]) -> usize
 
 // How many of so many items stand behind the line.
 fn left_behind(line: &Line, left: usize) -> usize
-    ensures { result ≡ left - (if spec.is_item line.now then 1 else 0) }
+    ensures { result ≡ left - (if spec.may_be_item line.now then 1 else 0) }
 {
-    if is_item(line) {
+    if may_be_item(line) {
         left.saturating_sub(1)
     } else {
         left

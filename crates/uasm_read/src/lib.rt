@@ -19,10 +19,10 @@
 //! `lines_spell_operations` says that each is one of the instruction table, and `operations_have_lines` that the table has no others.
 //! `end` and `jump` have the next `#?`, but for a `ref`.
 //!
-//! A text is refused by the first of these: it has more than 1,048,576 bytes; its first line that has no form, is a label that no item
-//! follows or a `ref` that follows no instruction, or names a label or import a second time; its first line that uses what is neither label
-//! nor import, or exports what is no label; its first instruction other than `end` and `jump` that has no `ref`, and that no item follows or
-//! one whose first word is not `#instr_t`.
+//! A text is refused by the first of these: it has more than 1,048,576 bytes; its first line that has no form, is a label that neither an
+//! item nor a line without a form follows or a `ref` that follows no instruction, or names a label or import a second time; its first line
+//! that uses what is neither label nor import, or exports what is no label; its first instruction other than `end` and `jump` that has no
+//! `ref`, and that no item follows or one whose first word is not `#instr_t`.
 //!
 //! `write_module` gives a text that assembles to a module.
 #![tactic(auto)]
@@ -50,6 +50,3 @@ pub use module::Module;
 pub use operand::Operand;
 pub use read::read_module;
 pub use write::write_module;
-
-#[cfg(test)]
-mod tests;
