@@ -2,7 +2,7 @@
 
 ghost use Rattle.std.specs.Prelude.{◌≡◌, ◌<◌, ◌^◌, IsTrue, Some, None, if◌then◌else◌, IfSome};
 ghost use Rattle.cap_words.specs.Fixnums.{in_range};
-ghost use Rattle.cap_words.specs.Words.{Fix, Ram, Cap, bits_of, number_of, place_of, word_of, kind_of, is_rom_bits, truth};
+ghost use Rattle.cap_words.specs.Words.{Fix, Ram, Cap, bits_of, number_of, place_of, word_of, kind_of, is_rom_bits, same_word, truth};
 
 use std::marker::Model;
 
@@ -217,4 +217,11 @@ pub struct Quad {
     pub x: Word,
     pub y: Word,
     pub z: Word,
+}
+
+/// Whether two words are the same.
+pub fn is_same(a: Word, b: Word) -> bool
+    ensures { result ≡ same_word a b }
+{
+    a == b
 }

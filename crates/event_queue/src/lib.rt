@@ -15,6 +15,3 @@ pub use laws::first_ready_goes_first;
 pub use queue::Queue;
 pub use release::append_all;
 pub use std::alloc::AllocError as NoMemory;
-
-#[cfg(test)]
-mod tests;

@@ -1,13 +1,12 @@
 // Whether a message can start.
 
 ghost use Rattle.std.specs.Prelude.{◌≡◌};
-ghost use Rattle.cap_words.specs.Words.{same_word};
 ghost use Rattle.cap_words.specs.Seen.{seen};
 ghost use Rattle.quad_memory.specs.Cells.{sponsor_at};
 ghost use Rattle.vm_turn.specs.Actors.{is_idle};
 ghost use Rattle.event_queue.specs.Starts.{can_start, runs_by};
 
-use cap_words::Word;
+use cap_words::{Word, is_same};
 use quad_memory::Quads;
 
 // Whether an event's target is idle and its sponsor runs.
@@ -38,10 +37,4 @@ fn is_running(quads: &Quads, sponsor: Word) -> bool
         Some(cell) => !is_same(cell.signal, Word::UNDEF),
         None => false,
     }
-}
-
-fn is_same(a: Word, b: Word) -> bool
-    ensures { result ≡ same_word a b }
-{
-    a == b
 }

@@ -18,6 +18,3 @@ pub use host::{HostFolder, HostSink};
 pub use memory::{EndlessFolder, MemFolder, MemSink, NamedFile};
 pub use outside::{Failed, Folder, Sink};
 pub use std::alloc::AllocError as NoMemory;
-
-#[cfg(test)]
-mod tests;

@@ -8,6 +8,3 @@ mod text;
 
 pub use run::{Report, Run, Stop, WriteFault};
 pub use text::StartError;
-
-#[cfg(test)]
-mod tests;

@@ -18,6 +18,3 @@ pub use laws::{
     keeps_code_out_of_ram, makes_what_it_names, shown_stays, takes_what_it_charges,
 };
 pub use op::Op;
-
-#[cfg(test)]
-mod tests;

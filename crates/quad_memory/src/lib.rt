@@ -13,6 +13,3 @@ pub use cells::{ActorCell, EventCell, SponsorCell};
 pub use image::Image;
 pub use quads::{Quads, ordinary_cells_stand};
 pub use std::alloc::AllocError as NoMemory;
-
-#[cfg(test)]
-mod tests;

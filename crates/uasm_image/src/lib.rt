@@ -10,6 +10,3 @@ pub use error::{DecodeError, ImageCause, ImageRefused};
 pub use laws::{faults_are_one, images_are_read_back};
 pub use reading::decode;
 pub use writing::encode;
-
-#[cfg(test)]
-mod tests;

@@ -10,6 +10,3 @@ mod whole;
 
 pub use error::LinkError;
 pub use whole::link;
-
-#[cfg(test)]
-mod tests;

@@ -1,19 +1,11 @@
 // The cells that messages are made of.
 
 ghost use Rattle.std.specs.Prelude.{◌≡◌};
-ghost use Rattle.cap_words.specs.Words.{same_word};
 ghost use Rattle.cap_words.specs.Seen.{seen, cell_seen};
 ghost use Rattle.instr_table.specs.Lists.{pair_in};
 
-use cap_words::{Quad, Word};
+use cap_words::{Quad, Word, is_same};
 use quad_memory::Quads;
-
-// Whether two words are the same.
-pub(crate) fn is_same(a: Word, b: Word) -> bool
-    ensures { result ≡ same_word a b }
-{
-    a == b
-}
 
 // The quad under a word.
 #[tactic(auto, using(crate::proofs::Reading::reading))]

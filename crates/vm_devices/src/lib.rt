@@ -15,6 +15,3 @@ mod tree;
 pub use delivery::{Done, Scratch, WriteFault, deliver};
 pub use laws::trees_are_unfoldings;
 pub use std::alloc::AllocError as NoMemory;
-
-#[cfg(test)]
-mod tests;

@@ -7,8 +7,8 @@ ghost use Rattle.cap_words.specs.Text.{is_run_byte};
 ghost use Rattle.vm_turn.specs.Piece.{numbers_to};
 ghost use Rattle.vm_devices.specs.Texts.{run_byte_of, run_of};
 
-use crate::cells::{is_same, pair};
-use cap_words::Word;
+use crate::cells::pair;
+use cap_words::{Word, is_same};
 use quad_memory::Quads;
 
 /// The longest name.

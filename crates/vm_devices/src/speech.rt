@@ -5,8 +5,8 @@ ghost use Rattle.hum_outside.specs.Outside.{HasCause, AppendsFront, appended};
 ghost use Rattle.cap_words.specs.Seen.{seen};
 ghost use Rattle.vm_devices.specs.Texts.{IsSmall, scalar_of, speech_of, speech_text};
 
-use crate::cells::{is_same, pair};
-use cap_words::Word;
+use crate::cells::pair;
+use cap_words::{Word, is_same};
 use hum_outside::{Failed, Sink, put_all};
 use quad_memory::Quads;
 

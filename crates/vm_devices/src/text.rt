@@ -9,9 +9,9 @@ ghost use Rattle.quad_memory.specs.Cells.{actor_at};
 ghost use Rattle.vm_turn.specs.Piece.{numbers_to, symbol_text, cell_text};
 ghost use Rattle.vm_devices.specs.Texts.{leaf_text};
 
-use crate::cells::{cell, is_same};
+use crate::cells::cell;
 use crate::name::{MOST_BYTES, read_name};
-use cap_words::{Quad, Word};
+use cap_words::{Quad, Word, is_same};
 use hum_outside::{Failed, Sink, put_all, put_parts};
 use itoa::Buffer;
 use quad_memory::Quads;

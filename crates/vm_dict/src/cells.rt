@@ -1,7 +1,6 @@
 // The cells that lists are made of.
 
 ghost use Rattle.std.specs.Prelude.{◌≡◌, ◌<◌, [], ◌∷◌};
-ghost use Rattle.cap_words.specs.Words.{same_word};
 ghost use Rattle.cap_words.specs.Seen.{OpenSlot, seen, cell_seen};
 ghost use Rattle.cap_words.specs.Store.{used};
 ghost use Rattle.instr_table.specs.Lists.{pair_in, pair_quad};
@@ -10,18 +9,11 @@ ghost use Rattle.instr_table.specs.Deque.{deque_quad};
 ghost use Rattle.vm_dict.specs.Made.{Takes};
 ghost use Rattle.vm_dict.specs.Calls.{next_word};
 
-use cap_words::{Quad, Word};
+use cap_words::{Quad, Word, is_same};
 use quad_memory::Quads;
 
 /// A longer list counts as its first cells.
 pub(crate) const LONGEST: u32 = 4095;
-
-// Whether two words are the same.
-pub(crate) fn is_same(a: Word, b: Word) -> bool
-    ensures { result ≡ same_word a b }
-{
-    a == b
-}
 
 // The quad under a word.
 #[tactic(auto, using(crate::proofs::Reading::reading))]

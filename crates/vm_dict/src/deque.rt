@@ -8,8 +8,8 @@ ghost use Rattle.vm_dict.specs.Made.{Takes, HasRoom};
 ghost use Rattle.vm_dict.specs.Calls.{new_in, pushed_in, put_in, from_front, from_back, popped_in, pulled_in, taking_in, turned_in};
 ghost use Rattle.vm_dict.specs.Ends.{IsEnds, IsRest};
 
-use crate::cells::{LONGEST, cell, is_same, pair, take_deque, take_pair};
-use cap_words::Word;
+use crate::cells::{LONGEST, cell, pair, take_deque, take_pair};
+use cap_words::{Word, is_same};
 use quad_memory::Quads;
 
 /// A deque after a value was taken from it.

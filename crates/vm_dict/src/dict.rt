@@ -7,8 +7,8 @@ ghost use Rattle.instr_table.specs.Dictionary.{entries, entries_to};
 ghost use Rattle.vm_dict.specs.Made.{Takes, HasRoom};
 ghost use Rattle.vm_dict.specs.Calls.{value_at, found, added_in, set_in, deleted_in, copied_in};
 
-use crate::cells::{LONGEST, entry, is_same, take_entry};
-use cap_words::{Quad, Word};
+use crate::cells::{LONGEST, entry, take_entry};
+use cap_words::{Quad, Word, is_same};
 use quad_memory::Quads;
 
 // An entry, and how many are before it.

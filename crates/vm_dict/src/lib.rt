@@ -18,6 +18,3 @@ pub use charges::cost;
 pub use deque::{Taken, deque_len, deque_new, deque_pop, deque_pull, deque_push, deque_put};
 pub use dict::{dict_add, dict_del, dict_get, dict_set};
 pub use laws::{calls_take_their_cost, deques_are_lists, dictionaries_are_lists, keys_stand_apart};
-
-#[cfg(test)]
-mod tests;

@@ -1,7 +1,7 @@
 // What one event will have done when it commits.
 
 ghost use Rattle.std.specs.Prelude.{◌≡◌, ◌<◌, [], ◌∷◌, IsSome, IfSome, OnOk, OnErr, is_ok, is_none, option_map, None, false};
-ghost use Rattle.cap_words.specs.Words.{Cap, same_word};
+ghost use Rattle.cap_words.specs.Words.{Cap};
 ghost use Rattle.cap_words.specs.Store.{Store, used, cap_place};
 ghost use Rattle.cap_words.specs.Seen.{seen, grown, altered, EventSlot, UnbornSlot};
 ghost use Rattle.cap_words.specs.Frame.{Framed};
@@ -14,7 +14,7 @@ ghost use Rattle.vm_effects.specs.Gathered.{behaviour, made_from};
 
 use crate::cells::{link_of, set_behaviour, set_mark, set_next};
 use crate::chain::Chain;
-use cap_words::{Tag, Word};
+use cap_words::{Tag, Word, is_same};
 use quad_memory::{ActorCell, EventCell, Quads};
 
 /// The event did not create the actor that it would give a behaviour.
@@ -225,10 +225,4 @@ fn has_created(quads: &Quads, created: &Chain, actor: Word) -> bool
         word = link_of(quads, word);
     }
     false
-}
-
-fn is_same(a: Word, b: Word) -> bool
-    ensures { result ≡ same_word a b }
-{
-    a == b
 }

@@ -11,6 +11,3 @@ mod release;
 
 pub use effects::{Effects, NotFresh, Released, Twice};
 pub use release::make_idle;
-
-#[cfg(test)]
-mod tests;

@@ -19,7 +19,7 @@ ghost use Rattle.vm_machine.specs.Whole.{Kept, Whole};
 
 use crate::finish::fail;
 use crate::parts::Parts;
-use cap_words::Word;
+use cap_words::{Word, is_same};
 use instr_table::Quota;
 use quad_memory::{EventCell, Quads};
 use vm_turn::{Entry, Outcome, Turn};
@@ -137,13 +137,6 @@ fn end_run(parts: &mut Parts, who: Word, kind: Quota, entry: Entry) -> Turn
         };
     }
     Turn::Finished(entry)
-}
-
-// Whether two words are the same.
-pub(crate) fn is_same(a: Word, b: Word) -> bool
-    ensures { result ≡ same_word a b }
-{
-    a == b
 }
 
 // The sponsor of an event that is there.

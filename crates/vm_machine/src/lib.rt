@@ -19,6 +19,3 @@ mod turn;
 pub use machine::{Lanes, Machine};
 pub use picked::Core;
 pub use std::alloc::AllocError as NoMemory;
-
-#[cfg(test)]
-mod tests;

@@ -17,9 +17,8 @@ ghost use Rattle.vm_machine.specs.Whole.{Kept};
 ghost use Rattle.vm_machine.specs.Deliveries.{end_by};
 ghost use Rattle.vm_machine.specs.Turns.{Takes};
 
-use crate::exhausted::is_same;
 use crate::parts::{Parts, note};
-use cap_words::Word;
+use cap_words::{Word, is_same};
 use hum_outside::Sink;
 use quad_memory::{ActorCell, EventCell, Quads};
 use vm_devices::{Done, Scratch, WriteFault};

@@ -1,23 +1,16 @@
 // What a sponsor's quads hold, and what they hold after a payment or a transfer.
 
 ghost use Rattle.std.specs.Prelude.{◌≡◌, ◌+◌, ◌-◌, ◌≤◌, None, pos};
-ghost use Rattle.cap_words.specs.Words.{W, Fix, same_word};
+ghost use Rattle.cap_words.specs.Words.{W, Fix};
 ghost use Rattle.instr_table.specs.Sheet.{amount, short, paid, signal_in};
 ghost use Rattle.vm_sponsor.specs.declared.amounts.Row.{Row};
 ghost use Rattle.vm_sponsor.specs.Totals.{most_held};
 ghost use Rattle.vm_sponsor.specs.Sheets.{amount_in, IsAmount, HasAmounts, Fits, account_with, fresh_cell, with_held, standing_in, shown};
 
 use crate::amounts::{Amounts, Row, SheetRow};
-use cap_words::Word;
+use cap_words::{Word, is_same};
 use instr_table::{Charge, Quota};
 use quad_memory::SponsorCell;
-
-// Whether two words are the same.
-pub(crate) fn is_same(a: Word, b: Word) -> bool
-    ensures { result ≡ same_word a b }
-{
-    a == b
-}
 
 // The number in a word.
 fn amount(w: Word) -> u32

@@ -20,11 +20,10 @@ ghost use Rattle.vm_sponsor.specs.Answers.{short_answer, spend_answer, start_ans
 use crate::amounts::{Amounts, Row, SheetRow};
 use crate::answer::{RanOut, Running, Short};
 use crate::cell::{
-    first_short, fresh_cell, held_of, is_same, paid_cell, prepared_in, shown_row, with_held,
-    with_signal,
+    first_short, fresh_cell, held_of, paid_cell, prepared_in, shown_row, with_held, with_signal,
 };
 use crate::grant::Grant;
-use cap_words::Word;
+use cap_words::{Word, is_same};
 use instr_table::{Charge, Quota};
 use quad_memory::{Quads, SponsorCell};
 use std::alloc::{AllocError as NoMemory, Global};
@@ -380,6 +379,3 @@ pub fn amounts_are_conserved()
     ensures moved { (sheet : List Account) (from to : W) (kind : Quota) (n : ℕ) → Among to (sponsors sheet) → n ≤ held sheet from kind → Each IsBalanced sheet → Each IsBalanced (transfer sheet from to kind n) × ((other : Quota) → total other (transfer sheet from to kind n) ≡ total other sheet) }
     ensures reclaimed { (sheet : List Account) (from to : W) → Among to (sponsors sheet) → Each IsBalanced sheet → Each IsBalanced (reclaim sheet from to) × ((kind : Quota) → total kind (reclaim sheet from to) ≡ total kind sheet) }
 {}
-
-#[cfg(test)]
-mod tests;

@@ -5,8 +5,7 @@ ghost use Rattle.cap_words.specs.Fixnums.{in_range};
 ghost use Rattle.cap_words.specs.Words.{truth};
 ghost use Rattle.instr_table.specs.Arithmetic.{falsy, order, compared, low_bits, of_low_bits, on_numbers, calculated, alu, complement};
 
-use crate::taking::is_same;
-use cap_words::{Kind, Word, wrap_add, wrap_mul, wrap_sub};
+use cap_words::{Kind, Word, is_same, wrap_add, wrap_mul, wrap_sub};
 
 // Whether a word is `#f`, `#?`, `#nil` or 0.
 pub(crate) fn falsy(w: Word) -> bool

@@ -12,8 +12,7 @@ ghost use Rattle.vm_step.specs.Moves.{Ready, Turns, plain_row, values_of};
 
 use crate::arithmetic::falsy;
 use crate::lane::{Lane, StepEnd};
-use crate::taking::is_same;
-use cap_words::Word;
+use cap_words::{Word, is_same};
 use instr_table::Op;
 use quad_memory::Quads;
 

@@ -24,6 +24,3 @@ mod words;
 pub use instruction::step;
 pub use lane::{Lane, StepEnd};
 pub use reads::fetch;
-
-#[cfg(test)]
-mod tests;

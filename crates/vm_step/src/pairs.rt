@@ -4,8 +4,8 @@ ghost use Rattle.std.specs.Prelude.{◌≡◌};
 ghost use Rattle.cap_words.specs.Seen.{seen, cell_seen};
 ghost use Rattle.instr_table.specs.Lists.{head_in, tail_in, tail_after, nth};
 
-use crate::taking::{cell, is_same, size};
-use cap_words::Word;
+use crate::taking::{cell, size};
+use cap_words::{Word, is_same};
 use quad_memory::Quads;
 
 // The head of a pair, `#?` of anything else.

@@ -1,7 +1,7 @@
 // The cells that instructions read and take.
 
 ghost use Rattle.std.specs.Prelude.{◌≡◌, ◌+◌, ◌^◌, ◌<◌, ◌≤◌, pos, unsigned_abs, [], ◌∷◌};
-ghost use Rattle.cap_words.specs.Words.{Fix, same_word};
+ghost use Rattle.cap_words.specs.Words.{Fix};
 ghost use Rattle.cap_words.specs.Seen.{OpenSlot, seen, cell_seen};
 ghost use Rattle.cap_words.specs.Store.{used};
 ghost use Rattle.instr_table.specs.Lists.{pair_quad};
@@ -10,13 +10,6 @@ ghost use Rattle.vm_dict.specs.Calls.{next_word};
 
 use cap_words::{Quad, Word};
 use quad_memory::Quads;
-
-// Whether two words are the same.
-pub(crate) fn is_same(a: Word, b: Word) -> bool
-    ensures { result ≡ same_word a b }
-{
-    a == b
-}
 
 // The size of a number.
 pub(crate) fn size(n: &i32) -> u32

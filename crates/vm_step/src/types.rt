@@ -6,8 +6,8 @@ ghost use Rattle.cap_words.specs.Seen.{seen, cell_seen};
 ghost use Rattle.instr_table.specs.Types.{is_actor, is_sponsor, type_of, plain_type, is_type, is_arity, is_type_cell, is_own_type, is_makeable};
 ghost use Rattle.vm_step.specs.Whole.{AreWhole};
 
-use crate::taking::{cell, is_same};
-use cap_words::{Kind, Quad, Word};
+use crate::taking::cell;
+use cap_words::{Kind, Quad, Word, is_same};
 use quad_memory::Quads;
 
 // Whether a word names an actor.

@@ -15,9 +15,8 @@ use crate::arithmetic::{alu, compared, complement};
 use crate::lane::{Lane, StepEnd};
 use crate::pairs::nth;
 use crate::reads::OwnWords;
-use crate::taking::is_same;
 use crate::types::is_of_type;
-use cap_words::Word;
+use cap_words::{Word, is_same};
 use instr_table::Op;
 use quad_memory::Quads;
 

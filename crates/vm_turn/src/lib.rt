@@ -23,6 +23,3 @@ pub use laws::{
     events_stand_once, grants_are_conserved, least_goes_first, others_wait, turns_change,
     turns_end,
 };
-
-#[cfg(test)]
-mod tests;

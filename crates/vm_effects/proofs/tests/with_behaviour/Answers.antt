@@ -1,4 +1,0 @@
-use Rattle.vm_effects.proofs.tests.with_behaviour.Goals as goal
-
-pub returns : goal.returns
-returns g c = λ s. c.become_with-second.ensures.linked s (c.become_with-first.ensures.linked s (c.begin-effects.ensures.linked s))
