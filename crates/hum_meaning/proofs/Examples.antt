@@ -1,15 +1,17 @@
 -- Worked programs: what they write, and each event with the steps that it takes and its end.
-use Rattle.std.proofs.Common.{◌≡◌, refl, pos, negsuc, true, false, List, [], ◌∷◌}
+use Rattle.std.proofs.Common.{◌≡◌, refl, ℕ, pos, negsuc, true, false, List, [], ◌∷◌, map, replicate, None}
 use Rattle.std.specs.Fmt.{digits}
 use Rattle.std.proofs.Math.Utf8.{encode}
+use Rattle.hum_meaning.specs.Value.{Nil, Plain}
+use Rattle.hum_meaning.specs.Named.{Named}
 use Rattle.hum_meaning.specs.Same.{same}
 use Rattle.hum_meaning.specs.BuiltIns.{built_in}
 use Rattle.hum_meaning.specs.Meaning.{level}
 use Rattle.hum_meaning.specs.Piece.{piece}
 use Rattle.hum_meaning.specs.Deliver.{deliver}
 use Rattle.hum_meaning.specs.After.{Commits, FailsWith, RunsOut, Follows}
-use Rattle.hum_meaning.proofs.Plain.{Expr, Stmt, undefined, nil, myself, truth, int, symbol, text, var, abs, block, call, new, cases, if_of, if_else_of, any, bind, int_pat, symbol_pat, value, send, create, become, throw, perform, arm, num, pair, triple, pair_pat, triple_pat, define, set, exprs, tuple_of, stmts, branches, when, call_both, println, say}
-use Rattle.hum_meaning.proofs.Runs.{language, begins, run, program, rests}
+use Rattle.hum_meaning.proofs.Plain.{plain, Expr, Stmt, undefined, nil, myself, truth, int, symbol, text, var, abs, block, call, new, cases, if_of, if_else_of, any, bind, int_pat, symbol_pat, value, let_, send, create, become, throw, perform, arm, num, pair, triple, pair_pat, triple_pat, define, set, exprs, tuple_of, stmts, branches, when, call_both, println, say}
+use Rattle.hum_meaning.proofs.Runs.{Ran, language, begins, run, program, rests, writes, fails}
 
 -- ---- first programs
 
@@ -228,12 +230,85 @@ no_branch_and_no_else : program (perform (if_of (branches (when (truth false) (t
 unfolding level same built_in deliver piece digits
 no_branch_and_no_else = refl
 
+-- IF less(2, 1) [ SEND 1 TO println ] ELIF less(1, 2) [ SEND 2 TO println ] ELSE [ SEND 3 TO println ]
+a_later_branch : program (perform (if_else_of (branches (
+    when (call_both "less" (num 2) (num 1)) (send (num 1) println ∷ [])
+    ∷ when (call_both "less" (num 1) (num 2)) (send (num 2) println ∷ []) ∷ []))
+    (stmts (send (num 3) println ∷ []))) ∷ [])
+    ≡ writes 17 "2\n"
+unfolding level same built_in deliver piece digits
+a_later_branch = refl
+
+-- IF FALSE [ SEND 1 TO println ] ELIF FALSE [ SEND 2 TO println ] ELSE [ SEND 3 TO println ]
+no_branch : program (perform (if_else_of (branches (
+    when (truth false) (send (num 1) println ∷ []) ∷ when (truth false) (send (num 2) println ∷ []) ∷ []))
+    (stmts (send (num 3) println ∷ []))) ∷ [])
+    ≡ writes 9 "3\n"
+unfolding level same built_in deliver piece digits
+no_branch = refl
+
+-- the conditions behind one that is TRUE are not evaluated
+-- IF TRUE [ ] ELIF (1)(2) [ ]
+the_first_that_is_true : program (perform (if_of (branches (when (truth true) [] ∷ when (call (num 1) (num 2)) [] ∷ []))) ∷ [])
+    ≡ rests "" ((0, 5, Commits) ∷ [])
+unfolding level same built_in deliver piece digits
+the_first_that_is_true = refl
+
+-- IF FALSE [ ] ELIF 5 [ ]
+no_truth_value_behind : program (perform (if_of (branches (when (truth false) [] ∷ when (num 5) [] ∷ []))) ∷ []) ≡ fails 6 5
+unfolding level same built_in deliver piece digits
+no_truth_value_behind = refl
+
+-- what IF gives is a block, which is not executed where it is sent
+-- SEND IF TRUE [ THROW 1 ] TO println
+a_branch_as_a_message : program (send (if_of (branches (when (truth true) (throw (num 1) ∷ []) ∷ []))) println ∷ []) ≡ writes 6 "[]\n"
+unfolding level same built_in deliver piece digits
+a_branch_as_a_message = refl
+
+-- 5
+no_block : program (perform (num 5) ∷ []) ≡ rests "" ((0, 4, Commits) ∷ [])
+unfolding level same built_in deliver piece digits
+no_block = refl
+
 -- a pattern is tried from left to right, up to the first part that does not match
 -- SEND CASE (1, 2) OF (2, $(1)(0)) : #a _ : #b END TO println
 the_first_part : program (send (cases (pair (num 1) (num 2)) (arm (pair_pat (int_pat (pos 2)) (value (call (num 1) (num 0)))) (symbol "a") ∷ arm any (symbol "b") ∷ [])) println ∷ [])
     ≡ rests "#b\n" ((0, 12, Commits) ∷ (1, 0, Commits) ∷ [])
 unfolding level same built_in deliver piece digits
 the_first_part = refl
+
+-- a tuple's last pattern takes all of the rest
+-- SEND CASE (1, 2, 3) OF (a, b) : (b, a) END TO println
+the_rest : program (send (cases (triple (num 1) (num 2) (num 3)) (arm (pair_pat (bind "a") (bind "b")) (pair (var "b") (var "a")) ∷ [])) println ∷ [])
+    ≡ writes 15 "((2, 3), 1)\n"
+unfolding level same built_in deliver piece digits
+the_rest = refl
+
+-- LET (a, b) = (1, 2)
+-- SEND (b, a) TO println
+two_values : program (let_ (pair_pat (bind "a") (bind "b")) (pair (num 1) (num 2)) ∷ send (pair (var "b") (var "a")) println ∷ []) ≡ writes 14 "(2, 1)\n"
+unfolding level same built_in deliver piece digits
+two_values = refl
+
+-- LET x = 1
+-- LET ($x, b) = (1, 2)
+-- SEND b TO println
+an_equal_value : program (set "x" (num 1)
+    ∷ let_ (pair_pat (value (var "x")) (bind "b")) (pair (num 1) (num 2))
+    ∷ send (var "b") println ∷ [])
+    ≡ writes 16 "2\n"
+unfolding level same built_in deliver piece digits
+an_equal_value = refl
+
+-- LET x = 1
+-- LET ($x, b) = (3, 2)
+-- SEND b TO println
+no_equal_value : program (set "x" (num 1)
+    ∷ let_ (pair_pat (value (var "x")) (bind "b")) (pair (num 3) (num 2))
+    ∷ send (var "b") println ∷ [])
+    ≡ fails 12 1
+unfolding level same built_in deliver piece digits
+no_equal_value = refl
 
 -- ---- comparison
 
@@ -274,6 +349,15 @@ outside_the_pattern : program (set "x" (num 1)
 unfolding level same built_in deliver piece digits
 outside_the_pattern = refl
 
+-- LET x = 1
+-- [ LET (x, $x) = (2, 1)
+--   SEND x TO println ]
+outside_the_definition : program (set "x" (num 1)
+    ∷ perform (block (let_ (pair_pat (bind "x") (value (var "x"))) (pair (num 2) (num 1)) ∷ send (var "x") println ∷ [])) ∷ [])
+    ≡ writes 18 "2\n"
+unfolding level same built_in deliver piece digits
+outside_the_definition = refl
+
 -- LET f(x) = g(x)
 -- SEND f(1) TO println
 -- LET g(x) = add(x, 1)
@@ -307,6 +391,14 @@ texts : program (send (tuple_of (exprs one_of_each)) println ∷ [])
 unfolding level same built_in deliver piece digits
 texts = refl
 
+-- SEND (a, b ..) TO say
+abbrev said_list : List Expr → Ran
+said_list items = program (send (tuple_of (exprs items)) say ∷ [])
+
+-- a file that sends a device one message, which it refuses
+abbrev refused : (steps : ℕ) → Ran
+refused steps = rests "" ((0, steps, Commits) ∷ (1, 0, FailsWith 8) ∷ [])
+
 -- SEND "hi" TO say
 -- SEND "" TO say
 said : program (send (text "hi") say ∷ send (text "") say ∷ []) ≡ rests "hi\n\n" ((0, 8, Commits) ∷ (1, 0, Commits) ∷ (2, 0, Commits) ∷ [])
@@ -322,6 +414,45 @@ a_list = refl
 no_list : program (send (num 5) say ∷ []) ≡ rests "" ((0, 5, Commits) ∷ (1, 0, FailsWith 8) ∷ [])
 unfolding level same built_in deliver piece digits encode
 no_list = refl
+
+-- SEND (233, 8364, 128512, NIL) TO say
+beyond_ascii : said_list (num 233 ∷ num 8364 ∷ num 128512 ∷ nil ∷ []) ≡ record {
+  output = 195 ∷ 169 ∷ 226 ∷ 130 ∷ 172 ∷ 240 ∷ 159 ∷ 152 ∷ 128 ∷ 10 ∷ [];
+  finished = (0, 9, Commits) ∷ (1, 0, Commits) ∷ [];
+  pending = 0;
+}
+unfolding level same built_in deliver piece digits encode
+beyond_ascii = refl
+
+-- the scalar values next to the surrogates, and the last one of all
+-- SEND (55295, 57344, 1114111, NIL) TO say
+the_last_scalar_values : said_list (num 55295 ∷ num 57344 ∷ num 1114111 ∷ nil ∷ []) ≡ record {
+  output = 237 ∷ 159 ∷ 191 ∷ 238 ∷ 128 ∷ 128 ∷ 244 ∷ 143 ∷ 191 ∷ 191 ∷ 10 ∷ [];
+  finished = (0, 9, Commits) ∷ (1, 0, Commits) ∷ [];
+  pending = 0;
+}
+unfolding level same built_in deliver piece digits encode
+the_last_scalar_values = refl
+
+-- the first and the last surrogate, a number behind the last scalar value, and a number below them all: each of them alone
+no_scalar_values : map (λ e. said_list (e ∷ nil ∷ [])) (num 55296 ∷ num 57343 ∷ num 1114112 ∷ int (negsuc 0) ∷ []) ≡ replicate 4 (refused 7)
+unfolding level same built_in deliver piece digits encode
+no_scalar_values = refl
+
+-- SEND (104, #a, NIL) TO say
+no_number_in_it : said_list (num 104 ∷ symbol "a" ∷ nil ∷ []) ≡ refused 8
+unfolding level same built_in deliver piece digits encode
+no_number_in_it = refl
+
+-- SEND (104, 105) TO say
+no_end : said_list (num 104 ∷ num 105 ∷ []) ≡ refused 7
+unfolding level same built_in deliver piece digits encode
+no_end = refl
+
+-- only `println` and `say` are devices
+no_third_device : piece {L = Named plain} 2 (Plain Nil) ≡ None
+unfolding piece
+no_third_device = refl
 
 -- LET d(n, x) = CASE n OF 0 : x _ : d(sub(n, 1), (x, x)) END
 -- SEND d(20, 1) TO println

@@ -8,8 +8,8 @@ use Rattle.hum_meaning.specs.BuiltIns.{built_in, on_pair, on_numbers, on_truths,
 use Rattle.hum_meaning.specs.Language.{ExprNode, Is, Var, Myself, Abs, BlockOf, Call, Tuple, New, Case, If, StmtNode, Let, Functions, Defined, Send, Create, Become, Throw, Do, Matched, Meaning, Language}
 use Rattle.hum_meaning.specs.Eval.{if_matched, if_pair, keep_if, equals, if_true, found, enter, tuple, arms, branches, apply, eval_node}
 use Rattle.hum_meaning.specs.Exec.{send_to, perform, statement, statements}
-use Rattle.hum_meaning.specs.Meaning.{nothing, stage, level, evaluate, match, execute}
-use Rattle.hum_meaning.specs.Laws.{IsDecided, more_left, Stays}
+use Rattle.hum_meaning.specs.Meaning.{nothing, stage, level, meaning, evaluate, match, execute}
+use Rattle.hum_meaning.specs.Laws.{IsDecided, more_left, Stays, SameWithin}
 use Rattle.hum_meaning.proofs.Agrees.{Holds, Agrees, any_at_zero, undecided_agrees, pure_agrees, fail_agrees, bind_agrees, step_agrees, step_keeps, create_agrees, send_agrees, become_agrees}
 
 -- ---- comparison and the built-in functions
@@ -224,15 +224,23 @@ module _ {L : Parts} (language : Language L) (lawful : Lawful language) (self ba
   pub execute_stays : (b : L.Body) (env : Env L) (effects : Effects L) → Stays (execute language self base b env effects)
   execute_stays b env effects s j d = stays s j _ _ (((level_stands language lawful self base (suc s) (suc (s + j)) (suc s) (omega arith)).exec b env).at effects s j) d
 
-  between : (n m s : ℕ) → s < n → s < m → (e : L.Expr) (env : Env L) (effects : Effects L)
-      → Holds s 0 (suc s) ((level language self base n).eval e env effects s) ((level language self base m).eval e env effects s)
-  between n m s a b e env effects =
-      let same : s + 0 ≡ s = omega arith in
-      subst (λ x. Holds s 0 (suc s) ((level language self base n).eval e env effects s) ((level language self base m).eval e env effects x)) same
-      (((level_stands language lawful self base n m (suc s) b).eval e env).at effects s 0)
+  -- what stands within s steps
+  abbrev Beside : {A : Type 0} (s : ℕ) (p q : Action L A) → Type 0
+  Beside s p q = (effects : Effects L) → Holds s 0 (suc s) (p effects s) (q effects s)
+
+  beside : {A : Type 0} (s : ℕ) (p q : Action L A) → Agrees (suc s) p q → Beside s p q
+  beside s p q h effects = let same : s + 0 ≡ s = omega arith in subst (λ x. Holds s 0 (suc s) (p effects s) (q effects x)) same (h.at effects s 0)
+
+  both_ways : {A : Type 0} (s : ℕ) (p q : Action L A) → Agrees (suc s) p q → Agrees (suc s) q p → (effects : Effects L) → p effects s ≡ q effects s
+  both_ways s p q h k effects = the_same s _ _ (beside s p q h effects) (beside s q p k effects)
 
   -- the depth is no bound of its own
-  pub depth-is-enough : (n s : ℕ) (e : L.Expr) (env : Env L) (effects : Effects L) → s < n
-      → (level language self base n).eval e env effects s ≡ evaluate language self base e env effects s
-  depth-is-enough n s e env effects lt =
-      the_same s _ _ (between n (suc s) s lt (omega arith) e env effects) (between (suc s) n s (omega arith) lt e env effects)
+  pub depth-is-enough : (n s : ℕ) → s < n → SameWithin s (level language self base n) (meaning language self base s)
+  depth-is-enough n s lt =
+      let up = level_stands language lawful self base n (suc s) (suc s) (omega arith) in
+      let down = level_stands language lawful self base (suc s) n (suc s) lt in
+      record {
+        eval = λ e env. both_ways s _ _ (up.eval e env) (down.eval e env);
+        matches = λ p v env es. both_ways s _ _ (up.matches p v env es) (down.matches p v env es);
+        exec = λ b env. both_ways s _ _ (up.exec b env) (down.exec b env);
+      }

@@ -4,7 +4,13 @@ pub mod PatternLaw
 pub mod NamedLaw
 pub mod Deliveries
 pub mod JudgedNames
+pub mod Within
+pub mod WithinLaw
+pub mod NamedWithin
+pub mod SoundLaw
 pub mod Plain
 mod Runs
 mod Examples
+mod BuiltInExamples
+mod EventExamples
 mod ScopeExamples

@@ -64,3 +64,11 @@ program file = run 20 400 (begins file) []
 -- it wrote this, these events finished, and no message is pending
 abbrev pub rests : String → List Finished → Ran
 rests output finished = record { output = codes output; finished = finished; pending = 0 }
+
+-- a file that sends println one message: its event takes so many steps, and then that is written
+abbrev pub writes : (steps : ℕ) → String → Ran
+writes steps output = rests output ((0, steps, Commits) ∷ (1, 0, Commits) ∷ [])
+
+-- a file whose event fails after so many steps with that code, so that nothing is sent
+abbrev pub fails : (steps code : ℕ) → Ran
+fails steps code = rests "" ((0, steps, FailsWith code) ∷ [])

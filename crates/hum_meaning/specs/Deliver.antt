@@ -22,7 +22,7 @@ pub record Configuration (L : Parts) : Type 0 where
   pub output : List ℕ
 
 -- how a delivery ends: with the configuration after it, where a failure also has its code and the number of messages that were gathered; it
--- stays open where the steps do not suffice
+-- stays open where the steps do not suffice, or where there is no target
 pub data Delivery (L : Parts) : Type 0 where
   Committed : Configuration L → Delivery L
   Failed : (code sends : ℕ) → Configuration L → Delivery L
@@ -79,7 +79,7 @@ module _ {L : Parts} (language : Language L) where
     result ← apply language self base (meaning language self base s) behaviour v
     perform (meaning language self base s) result
 
-  -- a delivery by the behaviour of its target, which each pending message has
+  -- a delivery by the behaviour of its target; where there is none, which `Sound` rules out, nothing is decided
   abbrev pub delivered : Configuration L → Message L → (s : ℕ) → Option (Behaviour L) → Delivery L
   delivered c m s (Some (Device n)) = printed c m (piece n m.value)
   delivered c m s (Some (Answers v)) = responded c m (respond m.target (length c.behaviours) s v m.value no_effects s)

@@ -31,7 +31,7 @@ module _ {L : Parts} where
   if_true (Plain (Truth false)) go other = other
   if_true _ go other = fail not_a_truth_value
 
-  -- the value of a reference; each reference of an accepted program has one
+  -- the value of a reference; one that finds none fails, and the scope rule refuses each file with a name that is not bound
   abbrev pub found : Option (Value L) → Action L (Value L)
   found (Some v) = pure v
   found None = fail no_match

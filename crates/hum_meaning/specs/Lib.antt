@@ -15,5 +15,6 @@ pub mod Written
 pub mod Piece
 pub mod Deliver
 pub mod After
+pub mod Sound
 pub mod Laws
 pub mod Scope

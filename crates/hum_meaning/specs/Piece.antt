@@ -55,10 +55,11 @@ abbrev pub line : List ℕ → List ℕ
 line bytes = bytes ++ 10 ∷ []
 
 module _ {L : Parts} where
-  -- `println` writes a value's text, and `say` the characters of a list
+  -- `println` writes a value's text, and `say` the characters of a list; there is no other device
   abbrev pub device_text : (device : ℕ) → Value L → Option (List ℕ)
   device_text zero v = Some (text_of false v)
-  device_text (suc n) v = speech v
+  device_text (suc zero) v = speech v
+  device_text (suc (suc n)) v = None
 
   -- the bytes that a device writes for a value, or none where it refuses: device 0 is `println`, and 1 is `say`
   unfoldable pub piece : (device : ℕ) → Value L → Option (List ℕ)

@@ -1,6 +1,6 @@
 // What is so of every program.
 
-ghost use Rattle.hum_meaning.specs.Laws.{EvaluationStays, MatchingStays, ExecutionStays, DepthIsEnough, DeliveriesStay, JournalsDecide, EachNameIsJudged};
+ghost use Rattle.hum_meaning.specs.Laws.{EvaluationStays, MatchingStays, ExecutionStays, DepthIsEnough, DeliveriesStay, JournalsDecide, MessagesHaveTargets, EventsKeepSoundness, ReachableConfigurationsAreSound, EachNameIsJudged};
 
 /// What s steps decide of an expression, s + j steps decide so, with j more steps left.
 pub fn evaluation_stays()
@@ -17,7 +17,7 @@ pub fn execution_stays()
     ensures { ExecutionStays }
 {}
 
-/// At every depth above s the outcome of s steps is the same: a depth is no bound of its own.
+/// At every depth above s, expressions, patterns and blocks have the outcome that s steps give them: a depth is no bound of its own.
 pub fn depth_is_enough()
     ensures { DepthIsEnough }
 {}
@@ -30,6 +30,21 @@ pub fn deliveries_stay()
 /// From the opening configuration of a file a journal leads to one configuration at most.
 pub fn journals_decide()
     ensures { JournalsDecide }
+{}
+
+/// In a sound configuration each pending message has a target.
+pub fn messages_have_targets()
+    ensures { MessagesHaveTargets }
+{}
+
+/// A finished event, whatever its end is, makes a sound configuration of a sound one.
+pub fn events_keep_soundness()
+    ensures { EventsKeepSoundness }
+{}
+
+/// From the opening configuration of a file every journal leads to a sound configuration.
+pub fn reachable_configurations_are_sound()
+    ensures { ReachableConfigurationsAreSound }
 {}
 
 /// The scope rule has one verdict for each name of a file, in the order in which they are spelled.
