@@ -13,10 +13,10 @@ use Rattle.hum_meaning.specs.Match.{match_tree}
 use Rattle.hum_meaning.specs.Written.{humus}
 use Rattle.hum_core.specs.Numbered.{atom_of}
 use Rattle.hum_core.specs.CoreTrees.{Core, core_match, core_language}
-use Rattle.hum_core.specs.Alike.{Scope, scope_of, Both, Reading, Alike, AlikeEnv}
+use Rattle.hum_core.specs.Alike.{Scope, scope_of, Both, Reading, Alike, AlikeEnv, EntriesAs}
 use Rattle.hum_core.specs.Reading.{reading_to}
 use Rattle.hum_core.specs.Agreement.{names_of, WrittenPat, NumberedPat, PatternNodeAs, resolving, Resolution}
-use Rattle.hum_core.proofs.Following.{ActsAs, Bound, marks_of, EntriesAs, Follows, Sound}
+use Rattle.hum_core.proofs.Following.{ActsAs, Bound, marks_of, Follows, Sound}
 use Rattle.hum_core.proofs.Wholly.{each_all, expr_all, statements_all, abstraction_all}
 use Rattle.hum_core.proofs.Names.{names_of_items, names_here, names_out}
 use Rattle.hum_core.proofs.Patterns.{renamed, any_as, bind_mark_as, atom_as, value_as, marks_of_items, tuple_as}

@@ -46,7 +46,7 @@ module _ {L K : Parts} (r : Reading L K) where
   kept_or true m m' ms ms' h k = k
   kept_or false m m' ms ms' h k = (h, k)
 
-  without_as : (n : ℕ) (ms : List (Message L)) (ms' : List (Message K)) → Each (MessageAs r) ms ms'
+  pub without_as : (n : ℕ) (ms : List (Message L)) (ms' : List (Message K)) → Each (MessageAs r) ms ms'
       → Each (MessageAs r) (without n ms) (without n ms')
   without_as n [] [] h = tt
   without_as n (m ∷ ms) (m' ∷ ms') h =

@@ -1,10 +1,10 @@
 -- When a meaning of one language follows that of another, as long as there are few enough steps.
-use Rattle.std.proofs.Common.{◌≡◌, ℕ, suc, ◌<◌, ◌≤◌, List, ◌++◌, map}
+use Rattle.std.proofs.Common.{ℕ, suc, ◌<◌, ◌≤◌, List, ◌++◌, map}
 use Rattle.hum_meaning.specs.Value.{Parts, Value, Env, Entry}
 use Rattle.hum_meaning.specs.Action.{Action, Effects}
 use Rattle.hum_meaning.specs.Language.{Language, Meaning}
 use Rattle.hum_meaning.specs.Meaning.{level}
-use Rattle.hum_core.specs.Alike.{Scope, scope_of, Both, Each, Reading, ArmAs, ExprNodeAs, StatementsAs, Alike, AlikeEnv, EffectsAs, OutcomeAs}
+use Rattle.hum_core.specs.Alike.{Scope, scope_of, Both, Each, Reading, ArmAs, ExprNodeAs, StatementsAs, Alike, AlikeEnv, EntriesAs, EffectsAs, OutcomeAs}
 
 module _ {L K : Parts} (r : Reading L K) where
   -- two courses of action have outcomes that are alike, with fewer than b steps
@@ -18,17 +18,13 @@ module _ {L K : Parts} (r : Reading L K) where
   abbrev pub marks_of : List (Entry L) → List L.Mark
   marks_of es = map (λ e. e.0) es
 
-  -- the entries of a match that bear these marks
-  abbrev pub EntriesAs : List L.Mark → List (Entry L) → List (Entry K) → Type 0
-  EntriesAs marks es ds = (marks_of es ≡ marks) × Bound es ds
-
   pub record Follows (b : ℕ) (m : Meaning L) (m' : Meaning K) : Type 0 where
     pub eval : (e : L.Expr) (d : K.Expr) (env : Env L) (env' : Env K) → AlikeEnv r env env' → r.ExprAs (scope_of env) e d
         → ActsAs b (Alike r) (m.eval e env) (m'.eval d env')
     pub matches : (p : L.Pattern) (q : K.Pattern) (v : Value L) (w : Value K) (env : Env L) (env' : Env K) (es : List (Entry L))
         (ds : List (Entry K))
         → AlikeEnv r env env' → r.PatternAs (scope_of env) p q → Alike r v w → Bound es ds
-        → ActsAs b (Both (EntriesAs (r.marks p ++ marks_of es))) (m.matches p v env es) (m'.matches q w env' ds)
+        → ActsAs b (Both (EntriesAs r (r.marks p ++ marks_of es))) (m.matches p v env es) (m'.matches q w env' ds)
     pub exec : (c : L.Body) (d : K.Body) (env : Env L) (env' : Env K) → AlikeEnv r env env' → r.BodyAs (scope_of env) c d
         → ActsAs b (λ x y. Unit {0}) (m.exec c env) (m'.exec d env')
 

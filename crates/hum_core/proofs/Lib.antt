@@ -14,4 +14,17 @@ pub mod Lowered
 pub mod Texts
 pub mod Delivered
 pub mod Standing
+pub mod Opened
+pub mod Followed
+pub mod Meant
+pub mod FormedParts
+pub mod ResolvedFormed
+pub mod Bounded
+pub mod ScopedNames
+pub mod UnitPlaces
+pub mod BoundNames
+pub mod ScopedBlocks
+pub mod ScopedTrees
+pub mod ScopedFiles
 mod Examples
+mod BoundExamples

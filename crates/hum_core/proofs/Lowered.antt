@@ -16,11 +16,11 @@ use Rattle.hum_meaning.specs.Pattern.{match_items}
 use Rattle.hum_core.specs.Numbered.{atom_of}
 use Rattle.hum_core.specs.CoreTrees.{Core, core_match, core_language}
 use Rattle.hum_core.specs.TestLists.{Tests, one_test, tests_from, tests_language}
-use Rattle.hum_core.specs.Alike.{Scope, scope_of, Both, Reading, Alike, plain_as, AlikeEnv, OutcomeAs}
+use Rattle.hum_core.specs.Alike.{Scope, scope_of, Both, Reading, Alike, plain_as, AlikeEnv, OutcomeAs, EntriesAs}
 use Rattle.hum_core.specs.Reading.{reading_to}
 use Rattle.hum_core.specs.Agreement.{NumberedPat}
 use Rattle.hum_core.specs.Lowering.{TestNode, first_value, other_values, Marks, marks_of as marks, SameAs, ItemsAs, TestsAs, lowering, Lowered}
-use Rattle.hum_core.proofs.Following.{ActsAs, Bound, marks_of, EntriesAs, Follows, Sound}
+use Rattle.hum_core.proofs.Following.{ActsAs, Bound, marks_of, Follows, Sound}
 use Rattle.hum_core.proofs.Acts.{step_as, bind_as', pure_as, fewer}
 use Rattle.hum_core.proofs.Simulates.{if_matched_as}
 use Rattle.hum_core.proofs.Wholly.{expr_all, statements_all, abstraction_all}

@@ -5,8 +5,8 @@ use Rattle.hum_meaning.specs.Action.{Action}
 use Rattle.hum_meaning.specs.Language.{Matched, Meaning}
 use Rattle.hum_meaning.specs.Eval.{if_pair, keep_if, equals}
 use Rattle.hum_meaning.specs.Pattern.{match_any, match_bind, match_atom, match_value, match_items, match_tuple}
-use Rattle.hum_core.specs.Alike.{scope_of, Both, Each, Reading, Alike, plain_as, pair_as, AlikeEnv}
-use Rattle.hum_core.proofs.Following.{ActsAs, Bound, marks_of, EntriesAs, Follows}
+use Rattle.hum_core.specs.Alike.{scope_of, Both, Each, Reading, Alike, plain_as, pair_as, AlikeEnv, EntriesAs}
+use Rattle.hum_core.proofs.Following.{ActsAs, Bound, marks_of, Follows}
 use Rattle.hum_core.proofs.Acts.{step_as, bind_as', pure_as, fewer, same_as}
 use Rattle.hum_core.proofs.Simulates.{if_matched_as}
 

@@ -6,10 +6,10 @@ use Rattle.hum_meaning.specs.Action.{Action, ◌>>=◌, no_match, not_a_function
 use Rattle.hum_meaning.specs.Language.{ExprNode, Is, Var, Myself, Abs, BlockOf, Call, Tuple, New, Case, If, StmtNode, Let, Functions, Defined, Send, Create, Become, Throw, Do, Matched, Language, Meaning}
 use Rattle.hum_meaning.specs.Eval.{if_matched, if_true, found, enter, tuple, arms, branches, apply, eval_node}
 use Rattle.hum_meaning.specs.Exec.{send_to, perform, statement, statements}
-use Rattle.hum_meaning.specs.Meaning.{level}
-use Rattle.hum_core.specs.Alike.{One, Scope, scope_of, with_marks, Both, Each, Reading, Alike, plain_as, pair_as, function_as, block_as, primitive_as, AlikeEnv, bind_as, group_as, ArmAs, BranchAs, ExprNodeAs, StatementsAs}
+use Rattle.hum_meaning.specs.Meaning.{level, match}
+use Rattle.hum_core.specs.Alike.{One, Scope, scope_of, with_marks, Both, Each, Reading, Alike, plain_as, pair_as, function_as, block_as, primitive_as, AlikeEnv, bind_as, group_as, ArmAs, BranchAs, ExprNodeAs, StatementsAs, EntriesAs, OutcomeAs}
 use Rattle.hum_core.specs.Reading.{MeanAlike}
-use Rattle.hum_core.proofs.Following.{ActsAs, Bound, marks_of, EntriesAs, Follows, Sound}
+use Rattle.hum_core.proofs.Following.{ActsAs, Bound, marks_of, Follows, Sound}
 use Rattle.hum_core.proofs.Acts.{step_as, step_keeps, bind_as', pure_as, fail_as, create_as, send_as, become_as, constant_as, built_in_as}
 
 module _ {L K : Parts} (r : Reading L K) (b' : ℕ) where
@@ -208,5 +208,7 @@ module _ {L K : Parts} (r : Reading L K) (l : Language L) (k : Language K) (soun
 pub means_alike : {L K : Parts} (r : Reading L K) (l : Language L) (k : Language K) → Sound r l k → MeanAlike r l k
 means_alike r l k sound = record {
   evaluation = λ self base s e d env env' f g c a h. ((level_follows r l k sound self base (suc s) (suc s) (suc s) (omega arith) (omega arith)).eval e d env env' a c).at f g s (omega arith) h;
+  matching = λ self base s p q v w env env' f g c i a h. subst (λ ms. OutcomeAs r s (Both (EntriesAs r ms)) (match l self base p v env f s) (match k self base q w env' g s))
+      (append-nil (r.marks p)) (((level_follows r l k sound self base (suc s) (suc s) (suc s) (omega arith) (omega arith)).matches p q v w env env' [] [] a c i tt).at f g s (omega arith) h);
   execution = λ self base s b c env env' f g i a h. ((level_follows r l k sound self base (suc s) (suc s) (suc s) (omega arith) (omega arith)).exec b c env env' a i).at f g s (omega arith) h;
 }

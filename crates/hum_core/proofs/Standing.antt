@@ -31,11 +31,12 @@ use Rattle.hum_meaning.specs.Language.{ExprNode, Is, Var, Myself, Abs, BlockOf, 
 use Rattle.hum_core.specs.Numbered.{Code, Opening, Of, atom_of, members}
 use Rattle.hum_core.specs.CoreTrees.{Core, core_arm, core_branch, core_expr, core_stmt, core_body, core_function, core_language}
 use Rattle.hum_core.specs.TestLists.{Tests, test_arm, test_branch, test_expr, test_stmt, test_body, test_function, tests_language}
-use Rattle.hum_core.specs.Alike.{Scope, One, grouped, with_marks, Both, Each, Reading, ConstantAs, ArmAs, BranchAs, ExprNodeAs, StatementsAs, MemberAs}
+use Rattle.hum_core.specs.Alike.{Scope, One, grouped, with_marks, Both, Each, Reading, ArmAs, BranchAs, ExprNodeAs, StatementsAs, MemberAs}
 use Rattle.hum_core.specs.Reading.{Relations, relations_to, reading_to}
 use Rattle.hum_core.specs.Lowering.{left_behind, split, first_value, other_values, marks_of, SameAs, ItemsAs, TestsAs, lowering}
 use Rattle.hum_core.specs.Lists.{expr_tested, pat_tested, arm_tested, branch_tested, tuple_tested, tested_expr, tested_pat, tested_arm, tested_branch, tested_stmt, tested_unit, tested}
 use Rattle.hum_core.specs.Laws.{FormedTreesStand}
+use Rattle.hum_core.proofs.Texts.{text_same}
 
 abbrev TestNodeOf : Type 0
 TestNodeOf = TestExpr-F Test TestExpr TestArm TestBranch
@@ -175,10 +176,6 @@ module _ (units : List CoreUnit) where
     branches_each scope [] h = tt
     branches_each scope (b ∷ bs) h = (branch_stands scope b (and_parts _ _ h).0, branches_each scope bs (and_parts _ _ h).1)
 
-    text_same : (cs : List ℕ) → ConstantAs {L = Core} {K = Tests} (text_value cs) (text_value cs)
-    text_same [] = refl
-    text_same (c ∷ cs) = (refl, text_same cs)
-
     seen_as : (scope : Scope Core) (x : ExprNode Core) (t : TestExpr) (y : TestNodeOf) → out-TestExpr t ≡ y
         → ExprNodeAs (to n) scope x (test_expr y) → ExprNodeAs (to n) scope x (test_expr (out-TestExpr t))
     seen_as scope x t y e h = subst (λ y. ExprNodeAs (to n) scope x (test_expr y)) (sym e) h
@@ -187,7 +184,7 @@ module _ (units : List CoreUnit) where
         → expr_formed ks (folds.map-CoreExpr CoreExpr CorePat CoreArm CoreBranch Bool Bool Bool Bool (is_formed_expr ks) (is_formed_pat ks) (is_formed_arm ks) (is_formed_branch ks) x) ≡ true
         → ExprNodeAs (to n) scope (core_expr x) (test_expr (out-TestExpr (expr_tested (folds.map-CoreExpr CoreExpr CorePat CoreArm CoreBranch TestExpr (List Test) TestArm TestBranch tested_expr tested_pat tested_arm tested_branch x))))
     node_stands scope (core.CoreExpr::Is c) h = seen_as scope (Is (Plain (atom_of c))) _ _ (t.outs-Is c) refl
-    node_stands scope (core.Text points) h = seen_as scope (Is (text_value points)) _ _ (t.outs-Text points) (text_same points)
+    node_stands scope (core.Text points) h = seen_as scope (Is (text_value points)) _ _ (t.outs-Text points) (text_same Core Tests points)
     node_stands scope (core.Var slot) h = seen_as scope (Var slot) _ _ (t.outs-Var slot) refl
     node_stands scope core.Myself h = seen_as scope Myself _ _ t.outs-Myself tt
     node_stands scope (core.Abs k) h = seen_as scope (Abs (Of k)) _ _ (t.outs-Abs k) (ca scope (Of k))

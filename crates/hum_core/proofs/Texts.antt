@@ -1,9 +1,14 @@
--- Devices write the same for values that are alike.
-use Rattle.std.proofs.Common.{◌≡◌, refl, ap, ◌∙◌, ℕ, zero, suc, ◌+◌, Bool, true, false, List, ◌++◌, Option, Some, None}
+-- Texts stand for themselves, and devices write the same for values that are alike.
+use Rattle.std.proofs.Common.{◌≡◌, refl, ap, ◌∙◌, ℕ, zero, suc, ◌+◌, Bool, true, false, List, [], ◌∷◌, ◌++◌, Option, Some, None}
 use Rattle.std.specs.Prelude.{option_map, nat_le, codes, if◌then◌else◌}
-use Rattle.hum_meaning.specs.Value.{Parts, Atom, Undefined, Nil, Truth, Number, Symbol, Actor, Value, Plain}
+use Rattle.hum_meaning.specs.Value.{Parts, Atom, Undefined, Nil, Truth, Number, Symbol, Actor, Value, Plain, text_value}
 use Rattle.hum_meaning.specs.Piece.{text_of, leaves, most_leaves, spoken, speech, line, device_text, piece}
-use Rattle.hum_core.specs.Alike.{Reading, Alike, plain_as, pair_as, function_as, block_as, primitive_as}
+use Rattle.hum_core.specs.Alike.{Reading, ConstantAs, Alike, plain_as, pair_as, function_as, block_as, primitive_as}
+
+-- a text stands for itself
+pub text_same : (L K : Parts) (points : List ℕ) → ConstantAs {L = L} {K = K} (text_value points) (text_value points)
+text_same L K [] = refl
+text_same L K (c ∷ points) = (refl, text_same L K points)
 
 module _ {L K : Parts} (r : Reading L K) where
   text_as : (inside : Bool) {v : Value L} {w : Value K} → Alike r v w → text_of inside v ≡ text_of inside w
@@ -55,7 +60,8 @@ module _ {L K : Parts} (r : Reading L K) where
 
   device_as : (n : ℕ) {v : Value L} {w : Value K} → Alike r v w → device_text n v ≡ device_text n w
   device_as zero h = ap (λ x. Some x) (text_as false h)
-  device_as (suc n) h = speech_as h
+  device_as (suc zero) h = speech_as h
+  device_as (suc (suc n)) h = refl
 
   pub piece_as : (n : ℕ) {v : Value L} {w : Value K} → Alike r v w → piece n v ≡ piece n w
   unfolding piece

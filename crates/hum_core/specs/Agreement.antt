@@ -77,7 +77,7 @@ WrittenPat = Pat-F Expr Pat Stmt Arm Branch
 abbrev pub NumberedPat : Type 0
 NumberedPat = CorePat-F CoreExpr CorePat CoreArm CoreBranch
 
--- a constant becomes `Is`; each other node keeps its kind; a tuple has two items at least
+-- a constant becomes `Is`; each other node keeps its kind
 abbrev pub PatternNodeAs : Reading (Named written) Core → Scope (Named written) → WrittenPat → NumberedPat → Type 0
 PatternNodeAs r scope layer.Any core.Any = Unit {0}
 PatternNodeAs r scope (layer.Bind x) core.Bind = Unit {0}

@@ -1,6 +1,6 @@
 -- When a tree of one language stands for a tree of another, and when their values, effects and outcomes are alike.
 use Rattle.std.specs.Prelude.{◌≡◌, ℕ, ◌≤◌, List, [], ◌∷◌, map, Option, Some, None}
-use Rattle.hum_meaning.specs.Value.{Parts, Atom, BuiltIn, Value, Plain, Pair, Function, Block, Primitive, Env, Outside, Bind, Group}
+use Rattle.hum_meaning.specs.Value.{Parts, Atom, BuiltIn, Value, Plain, Pair, Function, Block, Primitive, Env, Outside, Bind, Group, Entry}
 use Rattle.hum_meaning.specs.Action.{Effects, Outcome, Gives, Fails, Undecided}
 use Rattle.hum_meaning.specs.Language.{ExprNode, Is, Var, Myself, Abs, BlockOf, Call, Tuple, New, Case, If, StmtNode, Let, Functions, Defined, Send, Create, Become, Throw, Do}
 
@@ -117,9 +117,13 @@ mutual
     group_as : {fs : List (L.Mark × L.Abstraction)} {gs : List (K.Mark × K.Abstraction)} {env : Env L} {env' : Env K}
         → Each (MemberAs r (grouped fs (scope_of env))) fs gs → AlikeEnv r env env' → AlikeEnv r (Group fs env) (Group gs env')
 
--- ---- effects and outcomes
+-- ---- entries, effects and outcomes
 
 module _ {L K : Parts} (r : Reading L K) where
+  -- entries that bear these marks, and entries whose values are alike
+  abbrev pub EntriesAs : List L.Mark → List (Entry L) → List (Entry K) → Type 0
+  EntriesAs marks es ds = (map (λ e. e.0) es ≡ marks) × Each (λ a b. Alike r a.1 b.1) es ds
+
   abbrev pub SentAs : ℕ × Value L → ℕ × Value K → Type 0
   SentAs a b = (a.0 ≡ b.0) × Alike r a.1 b.1
 

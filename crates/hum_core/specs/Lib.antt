@@ -6,7 +6,10 @@ pub mod Alike
 pub mod Reading
 pub mod Agreement
 pub mod Configurations
+pub mod Openings
+pub mod Journals
 pub mod Lowering
 pub mod Lists
 pub mod Units
+pub mod Bound
 pub mod Laws

@@ -1,10 +1,10 @@
 -- The reading of one language in another that goes by their nodes: a tree stands for a tree where it does to every depth.
 use Rattle.std.specs.Prelude.{ℕ, zero, suc, List}
-use Rattle.hum_meaning.specs.Value.{Parts, Env}
+use Rattle.hum_meaning.specs.Value.{Parts, Value, Env}
 use Rattle.hum_meaning.specs.Action.{Effects}
 use Rattle.hum_meaning.specs.Language.{Language}
-use Rattle.hum_meaning.specs.Meaning.{evaluate, execute}
-use Rattle.hum_core.specs.Alike.{Scope, scope_of, Both, Reading, ArmAs, ExprNodeAs, StatementsAs, Alike, AlikeEnv, EffectsAs, OutcomeAs}
+use Rattle.hum_meaning.specs.Meaning.{evaluate, match, execute}
+use Rattle.hum_core.specs.Alike.{Scope, scope_of, Both, Reading, ArmAs, ExprNodeAs, StatementsAs, Alike, AlikeEnv, EntriesAs, EffectsAs, OutcomeAs}
 
 -- how patterns and references stand for one another, one node at a time, and the marks that a pattern binds
 pub record Linking (L K : Parts) : Type 1 where
@@ -69,6 +69,9 @@ pub record MeanAlike {L K : Parts} (r : Reading L K) (l : Language L) (k : Langu
   pub evaluation : (self base s : ℕ) (e : L.Expr) (d : K.Expr) (env : Env L) (env' : Env K) (f : Effects L) (g : Effects K)
       → r.ExprAs (scope_of env) e d → AlikeEnv r env env' → EffectsAs r f g
       → OutcomeAs r s (Alike r) (evaluate l self base e env f s) (evaluate k self base d env' g s)
+  pub matching : (self base s : ℕ) (p : L.Pattern) (q : K.Pattern) (v : Value L) (w : Value K) (env : Env L) (env' : Env K) (f : Effects L) (g : Effects K)
+      → r.PatternAs (scope_of env) p q → Alike r v w → AlikeEnv r env env' → EffectsAs r f g
+      → OutcomeAs r s (Both (EntriesAs r (r.marks p))) (match l self base p v env f s) (match k self base q w env' g s)
   pub execution : (self base s : ℕ) (b : L.Body) (c : K.Body) (env : Env L) (env' : Env K) (f : Effects L) (g : Effects K)
       → r.BodyAs (scope_of env) b c → AlikeEnv r env env' → EffectsAs r f g
       → OutcomeAs r s (λ x y. Unit {0}) (execute l self base b env f s) (execute k self base c env' g s)

@@ -4,10 +4,14 @@
 //! `Program` they are lists of tests. `specs/` gives both their meaning, by the same evaluator that gives a program its own
 //! (`hum_meaning`), and says when a numbered tree stands for a written one.
 //!
-//! The laws are functions without a body. What stands for one another means the same, for all numbers of steps:
-//! `resolved_trees_mean_the_same` and `lowered_trees_mean_the_same`. Formed trees stand for what they become with tests:
-//! `formed_trees_stand`. What some number of steps decides, every larger one decides so: `resolved_decisions_stay` and
+//! The laws are functions without a body. The numbered tree of a formed file is formed, and that of a scoped file stands for it:
+//! `resolved_trees_are_formed` and `scoped_files_stand`. Formed trees stand for what they become with tests: `formed_trees_stand`. What stands
+//! for one another means the same, for all numbers of steps: `resolved_trees_mean_the_same` and `lowered_trees_mean_the_same`; and programs
+//! begin alike: `programs_begin_alike`. What some number of steps decides, every larger one decides so: `resolved_decisions_stay` and
 //! `tested_decisions_stay`.
+//!
+//! `specs/Bound.antt` says what a delivery may cost. Its bound is the same in each of the languages, and counts steps and messages:
+//! `bounds_are_the_same` and `bounds_count_steps_and_sends`.
 #![tactic(auto)]
 
 mod laws;
@@ -16,12 +20,11 @@ mod slot;
 mod tested;
 
 pub use laws::{
-    formed_trees_stand, lowered_trees_mean_the_same, resolved_decisions_stay,
-    resolved_trees_mean_the_same, tested_decisions_stay,
+    bounds_are_the_same, bounds_count_steps_and_sends, formed_trees_stand,
+    lowered_trees_mean_the_same, programs_begin_alike, resolved_decisions_stay,
+    resolved_trees_are_formed, resolved_trees_mean_the_same, scoped_files_stand,
+    tested_decisions_stay,
 };
 pub use resolved::{CoreArm, CoreBranch, CoreExpr, CorePat, CoreStmt, CoreUnit, Resolved};
 pub use slot::{Const, Slot};
 pub use tested::{Program, Test, TestArm, TestBranch, TestExpr, TestStmt, TestUnit};
-
-#[cfg(test)]
-mod tests;

@@ -4,8 +4,6 @@
 #![tactic(auto)]
 
 mod lowering;
-#[cfg(test)]
-mod tests;
 mod trees;
 
 pub use lowering::lower;
