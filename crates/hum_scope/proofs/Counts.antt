@@ -1,10 +1,14 @@
 -- What a count of judged names tells.
 use Rattle.std.proofs.Common.{◌≡◌, refl, sym, subst, ℕ, suc, ◌+◌, true, List, [], ◌∷◌, Option, Some, None, Ok, Err, arith}
-use Rattle.std.specs.Prelude.{is_none}
+use Rattle.std.specs.Prelude.{is_none, Result}
 use Rattle.std.specs.List.{list_all}
 use Rattle.hum_syntax.specs.declared.tree.Stmt.{Stmt}
 use Rattle.hum_meaning.specs.Scope.{Verdicts, verdicts, first_from, first_refused}
 use Rattle.hum_scope.specs.declared.refusal.ScopeRefused.{ScopeRefused}
+use Rattle.hum_meaning.specs.declared.cause.ScopeCause.{ScopeCause}
+use Rattle.hum_core.specs.Laws.{FileStands}
+use Rattle.hum_core.proofs.ScopedFiles.{scoped-files-stand}
+use Rattle.hum_scope.specs.declared.refusal.ScopeError.{ScopeError}
 use Rattle.hum_scope.specs.declared.refusal.ScopeError.TheVariants.{NoMemory, Refused}
 use Rattle.hum_scope.specs.Walks.{Count, judged}
 use Rattle.hum_scope.specs.Told.{Told, ScopedTreesHaveNoRefusedName}
@@ -28,17 +32,18 @@ tells n (None ∷ vs) =
     one_right n vs (judged (Ok (n + 1)) vs) (subst (λ k. Tells (suc n) vs (judged (Ok k) vs)) next (tells (suc n) vs))
 tells n (Some cause ∷ vs) = subst (Tells n (Some cause ∷ vs)) (sym (refused_stays (record { at = n; cause = cause }) vs)) refl
 
-pub accepted : (file : List Stmt) (m : ℕ) → judged (Ok 0) (verdicts file) ≡ Ok m → Told (first_refused file) (Ok tt)
+pub accepted : (file : List Stmt) (m : ℕ) → judged (Ok 0) (verdicts file) ≡ Ok m → Told {A = Unit {0}} (first_refused file) (Ok tt)
 accepted file m e =
     let h : first_refused file ≡ None = subst (Tells 0 (verdicts file)) e (tells 0 (verdicts file)) in
-    subst (λ first. Told first (Ok tt)) (sym h) tt
+    subst (λ first. Told {A = Unit {0}} first (Ok tt)) (sym h) tt
 
-pub refused : (file : List Stmt) (r : ScopeRefused) → judged (Ok 0) (verdicts file) ≡ Err r → Told (first_refused file) (Err (Refused r))
+pub refused : (file : List Stmt) (r : ScopeRefused) → judged (Ok 0) (verdicts file) ≡ Err r
+    → Told {A = Unit {0}} (first_refused file) (Err (Refused r))
 refused file r e =
     let h : first_refused file ≡ Some (r.at, r.cause) = subst (Tells 0 (verdicts file)) e (tells 0 (verdicts file)) in
-    subst (λ first. Told first (Err (Refused r))) (sym h) refl
+    subst (λ first. Told {A = Unit {0}} first (Err (Refused r))) (sym h) refl
 
-pub no_memory : (first : Option (ℕ × _)) → Told first (Err NoMemory)
+pub no_memory : (first : Option (ℕ × ScopeCause)) → Told {A = Unit {0}} first (Err NoMemory)
 no_memory None = tt
 no_memory (Some first) = tt
 
@@ -56,3 +61,12 @@ all_none n (Some cause ∷ vs) h = cc h
 
 pub scoped-trees : ScopedTreesHaveNoRefusedName
 scoped-trees file = (none_first 0 (verdicts file), all_none 0 (verdicts file))
+
+told_none : (first : Option (ℕ × ScopeCause)) → Told {A = Unit {0}} first (Ok tt) → first ≡ None
+told_none None h = refl
+told_none (Some first) h = absurd h
+
+-- a file that is accepted stands for its numbered tree
+pub accepted_stands : (file : List Stmt) (r : Result (Unit {0}) ScopeError) → Told (first_refused file) r → r ≡ Ok tt → FileStands file
+accepted_stands file r h e =
+    scoped-files-stand file ((scoped-trees file).1 (told_none (first_refused file) (subst (λ r. Told {A = Unit {0}} (first_refused file) r) e h)))

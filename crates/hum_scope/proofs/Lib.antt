@@ -1,3 +1,7 @@
 mod Counts
+mod Entered
 mod NameLists
+mod Nodes
+mod Parts
 mod Sights
+mod Stretches

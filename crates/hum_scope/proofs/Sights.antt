@@ -12,19 +12,19 @@ gathered_binds Nothing more = refl
 pub functions_first : (s : OfStmt) (more : List OfStmt) → functions (s ∷ more) ≡ gathered (kind_of s.binds) (functions more)
 functions_first s more = gathered_binds s.binds (functions more)
 
--- the statements from one on
-pub from_one : (xs : List Stmt) (i : ℕ) (s : Stmt) → s ≡ get_or xs i s → i < length xs
-    → map found_of_stmt (drop i xs) ≡ found_of_stmt s ∷ map found_of_stmt (drop (i + 1) xs)
-from_one xs i s is within =
+-- the items from one on
+pub from_one : {X Y : Type 0} (f : X → Y) (xs : List X) (i : ℕ) (x : X) → x ≡ get_or xs i x → i < length xs
+    → map f (drop i xs) ≡ f x ∷ map f (drop (i + 1) xs)
+from_one f xs i x is within =
     let next : suc i ≡ i + 1 = omega arith in
-    ap (map found_of_stmt) (drop-cons xs i s within)
-    ∙ ap (λ y. found_of_stmt y ∷ map found_of_stmt (drop (suc i) xs)) (sym is)
-    ∙ ap (λ j. found_of_stmt s ∷ map found_of_stmt (drop j xs)) next
+    ap (map f) (drop-cons xs i x within)
+    ∙ ap (λ y. f y ∷ map f (drop (suc i) xs)) (sym is)
+    ∙ ap (λ j. f x ∷ map f (drop j xs)) next
 
 pub group_step : (xs : List Stmt) (i : ℕ) (s : Stmt) (k : Kind) → s ≡ get_or xs i s → i < length xs → k ≡ kind_of (found_of_stmt s).binds
     → functions (map found_of_stmt (drop i xs)) ≡ gathered k (functions (map found_of_stmt (drop (i + 1) xs)))
 group_step xs i s k is within e =
-    ap functions (from_one xs i s is within)
+    ap functions (from_one found_of_stmt xs i s is within)
     ∙ functions_first (found_of_stmt s) (map found_of_stmt (drop (i + 1) xs))
     ∙ ap (λ kind. gathered kind (functions (map found_of_stmt (drop (i + 1) xs)))) (sym e)
 

@@ -1,2 +1,5 @@
 pub mod Walks
 pub mod Told
+pub mod Entries
+pub mod Bodies
+pub mod Translations

@@ -7,11 +7,11 @@ use Rattle.hum_scope.specs.declared.refusal.ScopeError.{ScopeError}
 use Rattle.hum_scope.specs.declared.refusal.ScopeError.TheVariants.{NoMemory, Refused}
 
 -- the answer is the first refused name if there is one, and else that there is none, unless memory fails
-abbrev pub Told : Option (ℕ × ScopeCause) → Result (Unit {0}) ScopeError → Type 0
-Told None (Ok done) = Unit {0}
+abbrev pub Told : {A : Type 0} → Option (ℕ × ScopeCause) → Result A ScopeError → Type 0
+Told None (Ok a) = Unit {0}
 Told None (Err (Refused r)) = ⊥
 Told None (Err NoMemory) = Unit {0}
-Told (Some first) (Ok done) = ⊥
+Told (Some first) (Ok a) = ⊥
 Told (Some first) (Err (Refused r)) = first ≡ (r.at, r.cause)
 Told (Some first) (Err NoMemory) = Unit {0}
 

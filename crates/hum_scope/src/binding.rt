@@ -1,8 +1,10 @@
 // What a statement binds.
 
-ghost use Rattle.std.specs.Prelude.{◌≡◌};
+ghost use Rattle.std.specs.Prelude.{◌≡◌, ◌&&◌};
 ghost use Rattle.hum_meaning.specs.Scope.{found_of_stmt};
+ghost use Rattle.hum_core.specs.Units.{of_file};
 ghost use Rattle.hum_scope.specs.Walks.{shown, kind_of, found_of_expr};
+ghost use Rattle.hum_scope.specs.Translations.{made_of_expr, made_of_pat};
 
 use hum_syntax::{Expr, Name, Pat, Stmt};
 
@@ -17,7 +19,8 @@ pub enum Binding<'a> {
 }
 
 fn is_abstraction(e: &Expr) -> bool
-    ensures { result ≡ (found_of_expr e.now).is_abstraction }
+    ensures found { result ≡ (found_of_expr e.now).is_abstraction }
+    ensures made { result ≡ (made_of_expr e.now).is_abstraction }
 {
     match e {
         Expr::Abs(_, _) => true,
@@ -40,9 +43,28 @@ fn is_abstraction(e: &Expr) -> bool
     }
 }
 
+/// Whether a definition is a function's: a name with an abstraction.
+pub fn is_function(p: &Pat, e: &Expr) -> bool
+    ensures { result ≡ ((made_of_pat p.now).is_name && (made_of_expr e.now).is_abstraction) }
+{
+    match p {
+        Pat::Bind(_) => is_abstraction(e),
+        Pat::Any => false,
+        Pat::Undef => false,
+        Pat::Nil => false,
+        Pat::True => false,
+        Pat::False => false,
+        Pat::Num(_) => false,
+        Pat::Sym(_) => false,
+        Pat::Value(_) => false,
+        Pat::Tuple(_) => false,
+    }
+}
+
 /// What the statement binds.
 pub fn binds(s: &Stmt) -> Binding<'_>
-    ensures { shown result ≡ kind_of (found_of_stmt s.now).binds }
+    ensures found { shown result ≡ kind_of (found_of_stmt s.now).binds }
+    ensures made { shown result ≡ kind_of (of_file s.now).binds }
 {
     match s {
         Stmt::Let(Pat::Bind(name), value) => {

@@ -10,7 +10,8 @@ use crate::walk::{Walk, block};
 use hum_syntax::Tree;
 use std::alloc::{AllocError, Global};
 
-fn outermost<'a>(alloc: Global) -> Result<Names<'a>, AllocError>
+/// The names of the outermost environment.
+pub fn outermost<'a>(alloc: Global) -> Result<Names<'a>, AllocError>
     ensures { IfOk result (λ names. names ≡ outermost_scope) }
 {
     let mut names = Names::new(alloc);

@@ -1,6 +1,6 @@
 // Names, the newest first.
 
-ghost use Rattle.std.specs.Prelude.{◌≡◌, ◌-◌, ◌≤◌, ◌∷◌, ◌++◌, [], length, take, drop, OnOk};
+ghost use Rattle.std.specs.Prelude.{◌≡◌, ◌-◌, ◌≤◌, ◌∷◌, ◌++◌, [], length, map, reverse, take, drop, OnOk};
 ghost use Rattle.hum_meaning.specs.Scope as spec;
 
 use std::alloc::{AllocError, Global};
@@ -29,6 +29,13 @@ impl<'a> Names<'a> {
         Names {
             names: Vec::new(alloc),
         }
+    }
+
+    /// The names, the oldest first.
+    pub fn as_slice(&self) -> &[&'a [u8]]
+        ensures { reverse (map (λ n. n.now) result.now) ≡ self.now }
+    {
+        self.names.as_slice()
     }
 
     /// How many names there are.

@@ -9,7 +9,7 @@ pub loop-statement-preserved : goal.loop-statement-preserved
 loop-statement-preserved c =
     let xs = c.args.statements.now in
     let i = c.loop-statement.statement-index in
-    let e = group_step xs i c.statement-item.result (shown c.binds.result) c.statement-item.is (omega arith) c.binds.ensures in
+    let e = group_step xs i c.statement-item.result (shown c.binds.result) c.statement-item.is (omega arith) c.binds.ensures.found in
     let more = functions (map found_of_stmt (drop (i + 1) xs)) in
     elim c.match-binds.branch [
       | in-Function+in_ok-push-in-Function w ↦
