@@ -1,0 +1,11 @@
+-- What a delivery may cost.
+use Rattle.std.specs.Prelude.{ℕ, suc, ◌*◌}
+
+-- at most that many cycles and quads, and at least that many cycles where it is undecided
+pub record Limits : Type 0 where
+  pub most : ℕ
+  pub least : ℕ
+
+-- of a delivery that s steps decide
+abbrev pub limits : ℕ → Limits
+limits s = record { most = 64 * suc s; least = s }

@@ -1,0 +1,12 @@
+pub mod WordLists
+pub mod Comes
+pub mod Reaches
+pub mod Layout
+pub mod Stands
+pub mod Code
+pub mod Runtime
+pub mod Emission
+pub mod Opening
+pub mod Bounds
+pub mod Ending
+pub mod Laws

@@ -1,0 +1,23 @@
+// What is so of all code that stands for a program.
+
+ghost use Rattle.hum_code.specs.Laws.{EventsFollow, OpeningsFollow, StandingStays};
+
+/// Code that stands for a program does what the program means, whatever others do between its instructions. An event of an actor with a
+/// behaviour commits exactly where its delivery is decided as committed, with a record that stands for what was gathered; it fails
+/// exactly where its delivery is decided as failed, with its code; the actors that it makes are numbered after the roll; and where s
+/// steps decide its delivery, it is at each of its instructions within 64(s + 1) cycles, 64(s + 1) quads and one event for each
+/// message sent.
+pub fn code_means_the_program()
+    ensures { EventsFollow }
+{}
+
+/// The same of an event of the first actor, whose behaviour is the whole file in the outermost environment.
+pub fn opening_means_the_file()
+    ensures { OpeningsFollow }
+{}
+
+/// What stands for a value, or for an environment, still does in each store that shows what was shown: further cells, changed actors, sponsors
+/// and events, and a longer roll take nothing from it.
+pub fn standing_stays()
+    ensures { StandingStays }
+{}
