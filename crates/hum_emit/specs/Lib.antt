@@ -1,0 +1,10 @@
+pub mod Emitted
+pub mod Program
+pub mod Runtime
+pub mod Templates
+pub mod Holds
+pub mod Module
+pub mod Made
+pub mod Laws
+pub mod Shapes
+pub mod ProgramLayout
