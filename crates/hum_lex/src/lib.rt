@@ -5,8 +5,6 @@ mod bytes;
 mod error;
 mod front;
 mod laws;
-#[cfg(test)]
-mod tests;
 mod text;
 mod whole;
 mod word;

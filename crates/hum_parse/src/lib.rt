@@ -8,8 +8,6 @@ mod patterns;
 mod round_trip;
 mod statements;
 mod terms;
-#[cfg(test)]
-mod tests;
 mod tokens;
 mod whole;
 

@@ -5,8 +5,6 @@ mod form;
 mod keyword;
 mod laws;
 mod printer;
-#[cfg(test)]
-mod tests;
 mod token;
 mod tree;
 mod word;

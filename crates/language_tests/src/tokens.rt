@@ -1,6 +1,6 @@
 //! Worked texts: what each lexes to, and where it is refused.
 
-use crate::{LexCause, LexError, lex};
+use hum_lex::{LexCause, LexError, lex};
 use hum_syntax::{Token, TokenKind};
 use std::alloc::{AllocError, Global};
 use std::test::Fail;

@@ -1,7 +1,7 @@
 //! Worked texts: what trees they spell, and where they are refused.
 
-use crate::{ParseError, parse, read_back};
 use hum_lex::lex;
+use hum_parse::{ParseError, parse, read_back};
 use hum_syntax::{Expr, Stmt, Tree, print};
 use sqlite_items::Items;
 use std::alloc::{AllocError, Global};

@@ -4,7 +4,7 @@ ghost use Rattle.std.specs.Prelude.{◌≡◌, true, IsTrue, IfOk};
 ghost use Rattle.hum_syntax.specs.Forms.{is_name};
 ghost use Rattle.hum_syntax.specs.Formed.{is_formed_expr, is_formed_stmt};
 
-use crate::{Expr, KEYWORDS, Keyword, Name, Pat, Stmt, Sym, Text, Tree, print};
+use hum_syntax::{Expr, KEYWORDS, Keyword, Name, Pat, Stmt, Sym, Text, Tree, print};
 use sqlite_items::{Boxed, Items};
 use std::alloc::{AllocError, Global};
 use std::test::Fail;
