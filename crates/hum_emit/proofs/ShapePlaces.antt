@@ -91,18 +91,23 @@ module _ (units : List TestUnit) (shapes : List Shape) where
   }
 
   -- each of these units fits in the shape with which the walk finds it
-  abbrev pub AllFit : (m : ℕ) → List CoreUnit → List Shape → Type 0
-  AllFit m us found = Each (UnitFits units shapes (fits_to units shapes m)) (tested us) (shapes_from found (tested us))
+  pub record AllFit (m : ℕ) (us : List CoreUnit) (found : List Shape) : Type 0 where
+    pub each : Each (UnitFits units shapes (fits_to units shapes m)) (tested us) (shapes_from found (tested us))
+
+  pub none_fit : (m : ℕ) → AllFit m [] []
+  none_fit m = record { each = tt }
 
   pub fit_both : (m : ℕ) (us vs : List CoreUnit) (f g : List Shape) → Walks us f → AllFit m us f → AllFit m vs g → AllFit m (us ++ vs) (f ++ g)
   fit_both m us vs f g w h k =
       let R = UnitFits units shapes (fits_to units shapes m) in
-      subst (λ x. Each R x (shapes_from (f ++ g) (tested (us ++ vs)))) (sym (map-append tested_unit us vs))
-      (subst (Each R (tested us ++ tested vs)) (sym (walked_both us vs f g w)) (each_append R _ _ _ _ h k))
+      record {
+        each = subst (λ x. Each R x (shapes_from (f ++ g) (tested (us ++ vs)))) (sym (map-append tested_unit us vs))
+            (subst (Each R (tested us ++ tested vs)) (sym (walked_both us vs f g w)) (each_append R _ _ _ _ h.each k.each));
+      }
 
   pub fit_unit : (m : ℕ) (u : CoreUnit) (us : List CoreUnit) (shape : Shape) → UnitFits units shapes (fits_to units shapes m) (tested_unit u) shape
       → AllFit m us (in_unit (tested_unit u) shape) → AllFit m (u ∷ us) (shape ∷ [])
-  fit_unit m u us shape h k = (h, subst (AllFit m us) (sym (append-nil (in_unit (tested_unit u) shape))) k)
+  fit_unit m u us shape h k = record { each = (h, (subst (AllFit m us) (sym (append-nil (in_unit (tested_unit u) shape))) k).each) }
 
   pub fit_as : (m : ℕ) (us : List CoreUnit) (f g : List Shape) → f ≡ g → AllFit m us g → AllFit m us f
   fit_as m us f g e h = subst (AllFit m us) (sym e) h

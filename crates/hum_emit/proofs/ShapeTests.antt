@@ -38,7 +38,7 @@ bound-append [] us n = refl
 bound-append (t ∷ ts) us n = bound-append ts us (bound_behind (out-Test t) n)
 
 -- one test, as it is seen
-bound_one : (t : Test) (x : Test-F Test TestExpr TestArm TestBranch) (us : List Test) (n : ℕ) → out-Test t ≡ x
+pub bound_one : (t : Test) (x : Test-F Test TestExpr TestArm TestBranch) (us : List Test) (n : ℕ) → out-Test t ≡ x
     → bound_after (t ∷ us) n ≡ bound_after us (bound_behind x n)
 bound_one t x us n is = ap (λ x. bound_after us (bound_behind x n)) is
 

@@ -18,6 +18,7 @@ use Rattle.hum_syntax.proofs.Folding as fold_of
 use Rattle.hum_syntax.proofs.Folding.{Steps}
 use Rattle.hum_syntax.proofs.Induction as induction
 use Rattle.hum_syntax.proofs.Induction.{Each, nodes, Cases}
+use Rattle.hum_core.specs.declared.slot.Slot.{Slot}
 use Rattle.hum_core.specs.declared.slot.Const.{Const}
 use Rattle.hum_core.specs.declared.slot.Const.TheVariants as const
 use Rattle.hum_core.specs.declared.resolved.CoreUnit.{CoreUnit}
@@ -109,7 +110,7 @@ in_number k shape = shape ∷ []
 plain_walks : {A : Type 0} (inside : A → Inside) (f : Scope → A) → ((scope : Scope) (shape : Shape) → inside (f scope) shape ≡ []) → PartWalks inside (made.plain f)
 plain_walks inside f h = record { at = λ scope n shape. walks_as [] _ _ (h scope shape) none_walk }
 
-in_order_walk : {A : Type 0} (inside : A → Inside) (parts : List (Part A)) → AllByRecursion (PartWalks inside) parts
+pub in_order_walk : {A : Type 0} (inside : A → Inside) (parts : List (Part A)) → AllByRecursion (PartWalks inside) parts
     → PartWalks (λ xs shape. in_all (map inside xs) shape) (in_order parts)
 in_order_walk inside [] h = record { at = λ scope n shape. none_walk }
 in_order_walk inside (a ∷ more) h = record {
@@ -117,7 +118,7 @@ in_order_walk inside (a ∷ more) h = record {
 }
 
 -- what is so of the parts of nodes
-each_of : {X A : Type 0} (Q : X → Type 0) (part : X → Part A) (inside : A → Inside) (xs : Each Q)
+pub each_of : {X A : Type 0} (Q : X → Type 0) (part : X → Part A) (inside : A → Inside) (xs : Each Q)
     → ((x : X) → Q x → PartWalks inside (part x)) → AllByRecursion (PartWalks inside) (map part (nodes xs))
 each_of Q part inside [] h = tt
 each_of Q part inside (x ∷ xs) h = (h x.0 x.1, each_of Q part inside xs h)
@@ -291,6 +292,21 @@ core_value d shape =
 pub core_items : (ps : List CorePat) (shape : Shape) → in_core_pat (pat.Tuple ps) shape ≡ in_all (map in_core_pat ps) shape
 core_items ps shape = ap (λ ts. in_tests ts shape) (tested_items ps) ∙ tuple_inside ps shape
 
+pub core_any : (shape : Shape) → in_core_pat pat.Any shape ≡ []
+core_any shape = ap (λ ts. in_tests ts shape) tested_any ∙ ap (λ t. t.inside shape ++ []) of_skip
+
+pub core_bind : (shape : Shape) → in_core_pat pat.Bind shape ≡ []
+core_bind shape = ap (λ ts. in_tests ts shape) tested_bind ∙ ap (λ t. t.inside shape ++ []) of_bind
+
+pub core_text : (points : List ℕ) (shape : Shape) → in_core (expr.Text points) shape ≡ []
+core_text points shape = ap (λ d. in_expr d shape) (tested_text points) ∙ inside_text points shape
+
+pub core_var : (slot : Slot) (shape : Shape) → in_core (expr.Var slot) shape ≡ []
+core_var slot shape = ap (λ d. in_expr d shape) (tested_var slot) ∙ inside_var slot shape
+
+pub core_myself : (shape : Shape) → in_core expr.Myself shape ≡ []
+core_myself shape = ap (λ d. in_expr d shape) tested_myself ∙ inside_myself shape
+
 -- the shape behind the tests of an arm
 abbrev pub behind_tests : CorePat → Shape → Shape
 behind_tests d shape = with_singles (after_all (map of_one_test (tested_pat d)) 0) shape
@@ -363,9 +379,9 @@ cases = record {
   at_false = constant_walks const.False e.False (fold_of.fold_false built);
   at_num = λ z. constant_walks (const.Num z) (e.Num z) (fold_of.fold_num built z);
   at_sym = λ t. constant_walks (const.Sym t) (e.Sym t) (fold_of.fold_sym built t);
-  at_text = λ t. leaf_walks _ (e.Text t) (fold_of.fold_text built t) (λ scope shape. ap (λ d. in_expr d shape) (tested_text t) ∙ inside_text t shape);
-  at_var = λ t. leaf_walks _ (e.Var t) (fold_of.fold_var built t) (λ scope shape. ap (λ d. in_expr d shape) (tested_var _) ∙ inside_var _ shape);
-  at_myself = leaf_walks _ e.Myself (fold_of.fold_myself built) (λ scope shape. ap (λ d. in_expr d shape) tested_myself ∙ inside_myself shape);
+  at_text = λ t. leaf_walks _ (e.Text t) (fold_of.fold_text built t) (λ scope shape. core_text t shape);
+  at_var = λ t. leaf_walks _ (e.Var t) (fold_of.fold_var built t) (λ scope shape. core_var _ shape);
+  at_myself = leaf_walks _ e.Myself (fold_of.fold_myself built) (λ scope shape. core_myself shape);
   at_abs = abs_walks;
   at_block = λ xs.
       subst ExprWalks (sym (fold_of.fold_block built (nodes xs)))
@@ -386,10 +402,8 @@ cases = record {
       (in_order_walk in_core_arm _ (each_of A made_arm in_core_arm xs (λ x h. h)))));
   at_if = λ xs. subst ExprWalks (sym (fold_of.fold_if built (nodes xs))) (if_walks xs []);
   at_if_else = λ xs ys. subst ExprWalks (sym (fold_of.fold_if_else built (nodes xs) (nodes ys))) (if_walks xs ys);
-  at_any = plain_pat_walks pat.Any p.Any _ (fold_of.fold_any built) (λ scope n. refl)
-      (λ shape. ap (λ ts. in_tests ts shape) tested_any ∙ ap (λ t. t.inside shape ++ []) of_skip);
-  at_bind = λ t. plain_pat_walks pat.Bind (p.Bind t) _ (fold_of.fold_bind built t) (λ scope n. refl)
-      (λ shape. ap (λ ts. in_tests ts shape) tested_bind ∙ ap (λ t. t.inside shape ++ []) of_bind);
+  at_any = plain_pat_walks pat.Any p.Any _ (fold_of.fold_any built) (λ scope n. refl) core_any;
+  at_bind = λ t. plain_pat_walks pat.Bind (p.Bind t) _ (fold_of.fold_bind built t) (λ scope n. refl) core_bind;
   at_pat_undef = constant_pat_walks const.Undef p.Undef (fold_of.fold_pat_undef built);
   at_pat_nil = constant_pat_walks const.Nil p.Nil (fold_of.fold_pat_nil built);
   at_pat_true = constant_pat_walks const.True p.True (fold_of.fold_pat_true built);

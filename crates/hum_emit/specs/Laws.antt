@@ -1,9 +1,14 @@
 -- What is so of emitted code.
-use Rattle.std.specs.Prelude.{◌≡◌, ℕ, ◌-◌, List, [], ◌∷◌, length}
+use Rattle.std.specs.Prelude.{◌≡◌, true, ℕ, ◌-◌, List, [], ◌∷◌, length}
 use Rattle.cap_words.specs.Words.{W}
 use Rattle.cap_words.specs.Seen.{Seen}
 use Rattle.uasm_read.specs.Links.{Linked}
+use Rattle.hum_syntax.specs.declared.tree.Stmt.{Stmt}
+use Rattle.hum_syntax.specs.Formed.{are_formed}
+use Rattle.hum_meaning.specs.Scope.{Scoped}
 use Rattle.hum_core.specs.declared.tested.TestUnit.{TestUnit}
+use Rattle.hum_core.specs.Units.{resolved}
+use Rattle.hum_core.specs.Lists.{tested}
 use Rattle.hum_code.specs.Comes.{Setting}
 use Rattle.hum_code.specs.Layout.{Shape}
 use Rattle.hum_code.specs.Emission.{CodeStands}
@@ -12,7 +17,7 @@ use Rattle.hum_emit.specs.Holds.{places, place_word, Holds}
 use Rattle.hum_emit.specs.Made.{Made}
 use Rattle.hum_emit.specs.Module.{module_of}
 use Rattle.hum_emit.specs.Program.{emission}
-use Rattle.hum_emit.specs.Shapes.{ShapesFit}
+use Rattle.hum_emit.specs.Shapes.{shapes_of, ShapesFit}
 use Rattle.hum_emit.specs.ProgramLayout.{places_of, program_layout}
 
 -- a store with the cells that a module links to holds what was emitted, and begins with the instruction that was made last
@@ -27,3 +32,7 @@ EmittedCodeStands =
     (m : Setting) (units : List TestUnit) (shapes : List Shape) → ShapesFit units shapes
     → Holds (places_of (emission units shapes)) m.base (emission units shapes).0
     → CodeStands m (program_layout (places_of (emission units shapes)) units shapes (emission units shapes).0)
+
+-- the units of a formed file in which no name is refused fit in the shapes of their places
+abbrev pub ShapesOfProgramsFit : Type 0
+ShapesOfProgramsFit = (file : List Stmt) → are_formed file ≡ true → Scoped file → ShapesFit (tested (resolved file)) (shapes_of (tested (resolved file)))
