@@ -3,10 +3,10 @@
 ghost use Rattle.hum_code.specs.Laws.{EventsFollow, OpeningsFollow, StandingStays};
 
 /// Code that stands for a program does what the program means, whatever others do between its instructions. An event of an actor with a
-/// behaviour commits exactly where its delivery is decided as committed, with a record that stands for what was gathered; it fails
-/// exactly where its delivery is decided as failed, with its code; the actors that it makes are numbered after the roll; and where s
-/// steps decide its delivery, it is at each of its instructions within 64(s + 1) cycles, 64(s + 1) quads and one event for each
-/// message sent.
+/// behaviour commits only where its delivery is decided as committed, with a record that stands for what was gathered; it fails only
+/// where its delivery is decided as failed, with its code; the actors that it makes are numbered after the roll; and where s steps
+/// decide its delivery, it ends so or goes on, and is at each of its instructions within 64(s + 1) cycles, 64(s + 1) quads and one
+/// event for each message sent.
 pub fn code_means_the_program()
     ensures { EventsFollow }
 {}

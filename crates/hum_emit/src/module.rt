@@ -219,7 +219,8 @@ fn add_datum_items(alloc: Global, items: &mut Vec<Item>, cells: &[Datum]) -> Res
     Ok(())
 }
 
-/// The module of what was emitted: instructions, data, and the numbers of the units' first instructions.
+/// The module of what was emitted: instructions, data, and the numbers of the units' first instructions. Errors: `AllocError` where no
+/// memory can be had. What was emitted stays as it was.
 #[tactic(auto, using(crate::proofs::Modules::module_made))]
 pub fn module_of(
     alloc: Global,
