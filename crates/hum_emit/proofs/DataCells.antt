@@ -1,15 +1,14 @@
 -- Data that are made stay, and stand for texts and constants.
-use Rattle.std.proofs.Common.{◌≡◌, refl, ap, sym, subst, ◌∙◌, ℕ, zero, suc, ◌+◌, ◌<◌, pos, Bool, true, false, List, [], ◌∷◌, ◌++◌, length, append_assoc, Option, Some, None, option_map, ◌⊎◌, inl, inr, arith, if◌then◌else◌}
+use Rattle.std.proofs.Common.{◌≡◌, refl, ap, sym, subst, ◌∙◌, ℕ, suc, ◌<◌, Bool, true, false, List, [], ◌∷◌, ◌++◌, length, append_assoc, Option, Some, None, option_map, ◌⊎◌, inl, inr, arith, if◌then◌else◌}
 use Rattle.std.specs.Prelude.{slice_get}
 use Rattle.std.specs.Str.{bytes_eq}
 use Rattle.std.proofs.lemmas.List.{append-nil}
 use Rattle.std.proofs.lemmas.Option.{slice_get_within}
 use Rattle.std.proofs.lemmas.Slice.Eq.{bytes_eq-Decides}
-use Rattle.cap_words.specs.declared.word.Quad.{Quad}
 use Rattle.cap_words.specs.Words.{W}
 use Rattle.cap_words.specs.Seen.{Seen}
 use Rattle.cap_words.proofs.Places.{get-seam}
-use Rattle.instr_table.specs.Types.{Readable, Grows, look_up}
+use Rattle.instr_table.specs.Types.{Grows}
 use Rattle.instr_table.proofs.ShownWords.{read-shown}
 use Rattle.hum_core.specs.declared.slot.Const.{Const}
 use Rattle.hum_core.specs.declared.slot.Const.TheVariants as const

@@ -1,6 +1,6 @@
 -- The code of an emitted program stands in each store that holds what was emitted.
 use Rattle.std.proofs.Common.{◌≡◌, refl, ap, sym, subst, ◌∙◌, ℕ, zero, suc, ◌+◌, ◌-◌, ◌<◌, pos, Bool, true, false, List, [], ◌∷◌, ◌++◌, map, length, Option, Some, None, option_map, nat_eq, arith}
-use Rattle.std.specs.Prelude.{slice_get, slice_index, slice_index_or}
+use Rattle.std.specs.Prelude.{slice_get, slice_index}
 use Rattle.std.specs.Str.{bytes_eq}
 use Rattle.std.proofs.lemmas.Bool.Decides.{nat_tests}
 use Rattle.std.proofs.lemmas.Option.{slice_get_within}
@@ -14,9 +14,9 @@ use Rattle.hum_core.specs.declared.tested.TestUnit.TheVariants as unit
 use Rattle.hum_core.specs.TestLists.{test_body}
 use Rattle.hum_meaning.specs.Value.{BuiltIn, Add, Sub, Mul, Compare, Less, LessEqual, Greater, GreaterEqual, Equal, And, Or, Not, text_value}
 use Rattle.hum_code.specs.Comes.{Setting, At}
-use Rattle.hum_code.specs.Layout.{Shape, IsFunction, IsBlock, number_of_primitive}
+use Rattle.hum_code.specs.Layout.{Shape, number_of_primitive}
 use Rattle.hum_code.specs.Stands.{Shows, Stands, three_quad, DataStand}
-use Rattle.hum_code.specs.Code.{Line, FunctionCode, StatementsAt}
+use Rattle.hum_code.specs.Code.{Line, StatementsAt}
 use Rattle.hum_code.specs.Runtime.{BootAt, RuntimeAt, outermost_words}
 use Rattle.hum_code.specs.Emission.{CodeStands}
 use Rattle.hum_code.proofs.Makings.{length_end}
@@ -26,7 +26,7 @@ use Rattle.hum_emit.specs.declared.instruction.Instruction.{Instruction}
 use Rattle.hum_emit.specs.declared.instruction.Datum.{Datum}
 use Rattle.hum_emit.specs.Emitted.{Emitted, ◌▷◌, push, put, pair, state, list_field}
 use Rattle.hum_emit.specs.Holds.{Holds, word_of, data_word}
-use Rattle.hum_emit.specs.Runtime.{runtime, routine_places, end_place}
+use Rattle.hum_emit.specs.Runtime.{routine_places, end_place}
 use Rattle.hum_emit.specs.Templates.{units_code, push_data, boot_code}
 use Rattle.hum_emit.specs.Program.{start, routine_cells, emission}
 use Rattle.hum_emit.specs.Shapes.{ShapesFit}
@@ -34,7 +34,7 @@ use Rattle.hum_emit.specs.ProgramLayout.{places_of, program_layout}
 use Rattle.hum_emit.proofs.Makes.{Kept, Begins, begins_same, begins_later, Image, layout, Makes, makes_one, makes_both, pushes, pairs_up}
 use Rattle.hum_emit.proofs.DataCells.{datum_shown, list_stands}
 use Rattle.hum_emit.proofs.Fixed.{fails, calls, executes, applies, compares, primitives, ends}
-use Rattle.hum_emit.proofs.Expressions.{below, within, at, index_is}
+use Rattle.hum_emit.proofs.Expressions.{below, at, index_is}
 use Rattle.hum_emit.proofs.MadeUnits.{UnitAt, units_grow, units_stand}
 
 -- ---- data

@@ -1,8 +1,8 @@
 -- What is made of expressions and tests stands, to every depth.
-use Rattle.std.proofs.Common.{◌≡◌, refl, ap, sym, subst, ◌∙◌, ℕ, zero, suc, ◌-◌, ◌≤◌, ◌<◌, ℤ, pos, negsuc, Bool, true, false, List, [], ◌∷◌, map, length, Option, Some, None, option_map, arith, if◌then◌else◌}
+use Rattle.std.proofs.Common.{◌≡◌, refl, ap, sym, subst, ◌∙◌, ℕ, zero, suc, ◌-◌, ◌≤◌, ◌<◌, pos, negsuc, true, false, List, [], ◌∷◌, map, length, Option, Some, None, option_map, arith, if◌then◌else◌}
 use Rattle.std.specs.Prelude.{slice_get, slice_index_or, ◌&&◌}
 use Rattle.std.proofs.lemmas.Bool.{le-leb}
-use Rattle.cap_words.specs.Words.{W, Fix, Rom, undef, nil, truth, pair_t, func_t, block_t}
+use Rattle.cap_words.specs.Words.{W, Fix, Rom, truth, func_t, block_t}
 use Rattle.instr_table.specs.declared.op.Op.TheVariants as op
 use Rattle.instr_table.specs.Code.{named}
 use Rattle.hum_core.specs.declared.tested.TestExpr.{TestExpr, out-TestExpr, fold_out-TestExpr}
@@ -11,22 +11,22 @@ use Rattle.hum_core.specs.declared.tested.TestArm.{TestArm, out-TestArm, fold_ou
 use Rattle.hum_core.specs.declared.tested.TestBranch.{TestBranch, out-TestBranch, fold_out-TestBranch}
 use Rattle.hum_core.specs.declared.tested.Test.TheOpen.{Test-F, TestExpr-F, TestArm-F, TestBranch-F}
 use Rattle.hum_core.specs.declared.tested.Test.TheOpen as layer
-use Rattle.hum_core.specs.Numbered.{Code, Of}
+use Rattle.hum_core.specs.Numbered.{Of}
 use Rattle.hum_core.specs.Lowering.{TestNode, left_behind}
 use Rattle.hum_core.specs.TestLists.{test_expr, test_arm, test_branch}
 use Rattle.hum_code.specs.Comes.{At}
-use Rattle.hum_code.specs.Layout.{Kind, Single, Several, Shape, with_singles, minus, IsFunction, IsBlock}
-use Rattle.hum_code.specs.Code.{Codes, Line, Choice, Constant, HasMember, FunctionAt, BlockAt, VarAt, ItemsAt, TupleAt, BranchesAt, TestAt, TestsAt, ArmAt, RestoreAt, LaterArmsAt, ArmsAt, NodeAt, codes_to, bound_behind, bound_after}
+use Rattle.hum_code.specs.Layout.{Single, Several, Shape, with_singles, minus, IsFunction}
+use Rattle.hum_code.specs.Code.{Codes, Line, Choice, HasMember, BlockAt, VarAt, ItemsAt, TupleAt, BranchesAt, TestAt, TestsAt, ArmAt, RestoreAt, LaterArmsAt, ArmsAt, NodeAt, codes_to, bound_behind, bound_after}
 use Rattle.hum_emit.specs.declared.instruction.Field.{Field}
 use Rattle.hum_emit.specs.declared.instruction.Field.TheVariants.{Unit as UnitField, Constant as ConstantField, Place}
-use Rattle.hum_emit.specs.Emitted.{Piece, ◌▷◌, push, dup, drop, roll, pair, part, nth, typeq, eq, choose, myself, debug, create, function_type, block_type, text, constant, text}
+use Rattle.hum_emit.specs.Emitted.{Piece, ◌▷◌, push, dup, drop, roll, pair, nth, typeq, eq, choose, debug, create, function_type, block_type, text, constant, text}
 use Rattle.hum_emit.specs.Holds.{place_word, word_of}
-use Rattle.hum_emit.specs.Runtime.{fail_place, call_place, same_place, apply_place}
+use Rattle.hum_emit.specs.Runtime.{fail_place, apply_place}
 use Rattle.hum_emit.specs.Templates.{OfExpr, OfTest, OfArm, OfBranch, function, block, unit_of, member_unit, variable, items, pairs, tuple, branches, tests, restore, later_arms, arms, after_all, expr_code, test_code}
-use Rattle.hum_emit.specs.Shapes.{Fits, ConstFits, FunctionIn, BlockIn, MemberIn, SlotFits, TestFits, EachTestFits, EachFits, ArmsFit, BranchesFit, NodeFits, fits_to}
+use Rattle.hum_emit.specs.Shapes.{Fits, BlockIn, MemberIn, SlotFits, TestFits, EachTestFits, EachFits, ArmsFit, BranchesFit, NodeFits, fits_to}
 use Rattle.hum_emit.proofs.Makes.{begins_later, Image, layout, Makes, makes_one, makes_both, makes_as, makes_miss, makes_field, makes_choose, makes_calls, makes_nothing, pushes, dups, drops, picks, rolls, pairs_up, parts, nths, quads}
 use Rattle.hum_emit.proofs.DataCells.{text_begins, text_known, constant_begins, constant_known}
-use Rattle.hum_emit.proofs.Growths.{arm_code, branch_code, coded_expr, coded_test, coded_arm, coded_branch, grows_expr, grows_tests, three_grow}
+use Rattle.hum_emit.proofs.Growths.{arm_code, branch_code, coded_expr, coded_test, grows_expr, grows_tests, three_grow}
 
 -- ---- operands
 

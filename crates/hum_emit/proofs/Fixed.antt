@@ -1,5 +1,5 @@
 -- The fixed code stands.
-use Rattle.std.proofs.Common.{◌≡◌, refl, ap, sym, subst, ◌∙◌, ℕ, zero, suc, ◌<◌, ◌≤◌, pos, negsuc, Bool, true, false, List, [], ◌∷◌, ◌++◌, length, Option, Some, None, arith}
+use Rattle.std.proofs.Common.{◌≡◌, refl, ap, sym, ◌∙◌, ℕ, zero, suc, ◌<◌, ◌≤◌, pos, negsuc, Bool, true, false, List, [], ◌∷◌, ◌++◌, Option, Some, None, arith}
 use Rattle.std.specs.Prelude.{slice_get, nat_eq, ◌||◌}
 use Rattle.std.specs.List.{list_any}
 use Rattle.std.proofs.lemmas.Bool.Decides.{nat_tests}
@@ -11,11 +11,11 @@ use Rattle.instr_table.specs.declared.op.Op.TheVariants as op
 use Rattle.instr_table.specs.Code.{named, with_next}
 use Rattle.hum_meaning.specs.Value.{BuiltIn, Add, Sub, Mul, Compare, Less, LessEqual, Greater, GreaterEqual, Equal, And, Or, Not}
 use Rattle.hum_code.specs.Comes.{At}
-use Rattle.hum_code.specs.Code.{Line, Choice}
-use Rattle.hum_code.specs.Runtime.{FailAt, BackAt, CallAt, ExecAt, ApplyAt, SameAt, PartsAt, NumbersAt, CalculatesAt, TruthAt, AnswersAt, CompareAt, AndAt, OrAt, NotAt, PrimitiveAt, IsFailure}
+use Rattle.hum_code.specs.Code.{Line}
+use Rattle.hum_code.specs.Runtime.{FailAt, BackAt, CallAt, ExecAt, ApplyAt, SameAt, PartsAt, CalculatesAt, CompareAt, AndAt, OrAt, NotAt, PrimitiveAt, IsFailure}
 use Rattle.hum_emit.specs.declared.instruction.Instruction.{Instruction}
 use Rattle.hum_emit.specs.Holds.{place_word, word_of, next_word}
-use Rattle.hum_emit.specs.Runtime.{runtime, fail_place}
+use Rattle.hum_emit.specs.Runtime.{runtime}
 use Rattle.hum_emit.proofs.Makes.{Image, layout}
 
 -- the number of the next instruction, or 0

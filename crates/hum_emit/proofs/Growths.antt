@@ -1,5 +1,5 @@
 -- What is emitted of a tree only adds to what was emitted before.
-use Rattle.std.proofs.Common.{◌≡◌, sym, subst, ℕ, zero, suc, ◌-◌, ℤ, pos, negsuc, List, [], ◌∷◌, map, length, Option, Some, None}
+use Rattle.std.proofs.Common.{◌≡◌, sym, subst, ℕ, zero, suc, ◌-◌, pos, negsuc, List, [], ◌∷◌, map, length, Option, Some, None}
 use Rattle.hum_core.specs.declared.tested.TestExpr.{TestExpr}
 use Rattle.hum_core.specs.declared.tested.Test.{Test}
 use Rattle.hum_core.specs.declared.tested.TestArm.{TestArm, fold-TestArm}
@@ -8,9 +8,8 @@ use Rattle.hum_core.specs.declared.tested.Test.TheOpen.{Test-F, TestExpr-F, Test
 use Rattle.hum_core.specs.declared.tested.Test.TheOpen as layer
 use Rattle.hum_core.specs.declared.tested.Test.TheFolds as folds
 use Rattle.hum_core.specs.declared.tested.Test.TheViews.{roll-Test, roll-TestExpr, roll-TestArm, roll-TestBranch}
-use Rattle.hum_code.specs.Layout.{Shape, with_singles, minus}
-use Rattle.hum_emit.specs.declared.instruction.Field.{Field}
-use Rattle.hum_emit.specs.declared.instruction.Field.TheVariants.{Constant, Place}
+use Rattle.hum_code.specs.Layout.{Shape, with_singles}
+use Rattle.hum_emit.specs.declared.instruction.Field.TheVariants.{Constant}
 use Rattle.hum_emit.specs.Emitted.{Piece, ◌▷◌, push, dup, drop, pair, nth, eq, choose, text, constant}
 use Rattle.hum_emit.specs.Runtime.{fail_place}
 use Rattle.hum_emit.specs.Templates.{OfExpr, OfTest, OfArm, OfBranch, function, block, variable, items, pairs, branches, tests, restore, later_arms, arms, of_expr, of_test, of_arm, of_branch, expr_code, test_code, after_all, member_unit}

@@ -21,3 +21,19 @@ pub mod ShapeBlocks
 pub mod ShapePatterns
 pub mod ShapeTrees
 pub mod ShapeFiles
+pub mod Fair
+pub mod FairData
+pub mod FairTrees
+pub mod FairUnits
+pub mod FairStart
+pub mod Backwards
+pub mod Symbols
+pub mod Linking
+mod ListCells
+pub mod Scopes
+pub mod Turns
+pub mod Compiling
+pub mod Tops
+pub mod Findings
+pub mod Parting
+pub mod UnitTurns

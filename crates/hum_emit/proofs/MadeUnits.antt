@@ -1,7 +1,7 @@
 -- What is made of statements and units stands.
-use Rattle.std.proofs.Common.{◌≡◌, refl, ap, sym, subst, ◌∙◌, ℕ, zero, suc, ◌<◌, pos, true, List, [], ◌∷◌, map, length, Option, Some, None}
+use Rattle.std.proofs.Common.{◌≡◌, refl, ap, sym, subst, ℕ, zero, suc, pos, List, [], ◌∷◌, map, Some, None}
 use Rattle.std.specs.Prelude.{slice_get, slice_index}
-use Rattle.cap_words.specs.Words.{W, undef}
+use Rattle.cap_words.specs.Words.{W}
 use Rattle.instr_table.specs.declared.op.Op.TheVariants as op
 use Rattle.hum_core.specs.declared.tested.TestUnit.{TestUnit}
 use Rattle.hum_core.specs.declared.tested.TestUnit.TheVariants as unit
@@ -15,10 +15,10 @@ use Rattle.hum_code.specs.Comes.{At}
 use Rattle.hum_code.specs.Layout.{Single, Several, Shape, with_singles}
 use Rattle.hum_code.specs.Code.{MatchAt, PartAt, StatementsAt, FunctionCode, bound_after}
 use Rattle.hum_emit.specs.declared.instruction.Field.TheVariants.{Constant as ConstantField, Place}
-use Rattle.hum_emit.specs.Emitted.{Emitted, ◌▷◌, send, become, push, dup, roll, jump, actor_type}
+use Rattle.hum_emit.specs.Emitted.{Emitted, ◌▷◌, send, become, dup, roll, jump, actor_type}
 use Rattle.hum_emit.specs.Runtime.{fail_place, apply_place}
-use Rattle.hum_emit.specs.Templates.{matching, after_all, expr_code, test_code, statements, unit_code, units_code}
-use Rattle.hum_emit.specs.Shapes.{Fits, StatementFits, StatementsFit, UnitFits}
+use Rattle.hum_emit.specs.Templates.{matching, expr_code, test_code, statements, unit_code, units_code}
+use Rattle.hum_emit.specs.Shapes.{StatementsFit, UnitFits}
 use Rattle.hum_emit.proofs.Makes.{Begins, begins_same, begins_later, Image, layout, Makes, makes_one, makes_both, makes_as, makes_to, makes_choose, makes_calls, makes_jump, pushes, dups, drops, picks, rolls, pairs_up}
 use Rattle.hum_emit.proofs.Expressions.{below, within, at, Level, made_to, after_all_is, creates, debugs, typeqs}
 

@@ -19,10 +19,11 @@ use Rattle.hum_emit.specs.declared.instruction.Field.{Field}
 use Rattle.hum_emit.specs.declared.instruction.Field.TheVariants as field
 use Rattle.hum_emit.specs.declared.instruction.Instruction.{Instruction}
 use Rattle.hum_emit.specs.declared.instruction.Datum.{Datum}
-use Rattle.hum_emit.specs.Module.{code_label, unit_label, datum_label, boot_label, begins, operand_of, next_operand, labels_of, rest_if, item_of, code_items, datum_items, module_from}
+use Rattle.hum_emit.specs.Module.{code_label, unit_label, datum_label, apply_label, boot_label, begins, operand_of, next_operand, labels_of, rest_if, item_of, code_items, datum_items, module_from}
+use Rattle.hum_emit.specs.Runtime.{apply_place}
 use Rattle.hum_emit.specs.Made.{Descend, FieldMade, NextMade, InstructionMade, DatumMade, Made}
 use Rattle.hum_emit.proofs.Labels.{label_is_name}
-use Rattle.hum_emit.proofs.Numbering.{numbered_has, entries_few, code_number, unit_number, datum_number, data_number, boot_number}
+use Rattle.hum_emit.proofs.Numbering.{numbered_has, entries_few, code_number, unit_number, datum_number, data_number, apply_number, boot_number}
 use Rattle.hum_emit.proofs.Differences.{all_differ, all_named}
 
 -- ---- the numbers of all labels
@@ -59,6 +60,11 @@ module _ (code : List Instruction) (cells : List Datum) (entries : List ℕ) (ma
       ∙ ap (λ n. label_number (16 + length (reverse code)) (datum_items 0 cells) (datum_label n)) (let z : j ≡ 0 + j = omega arith in z)
       ∙ data_number (16 + length (reverse code)) 0 cells j (omega arith) h
       ∙ ap Some (let z : 16 + length (reverse code) + j ≡ 16 + (length code + j) = omega arith in z)
+
+  pub number_of_apply : apply_place < length code → label_number 16 items apply_label ≡ Some (16 + (length code - suc apply_place))
+  number_of_apply h =
+      let same = backwards in
+      apply_number (length code) 16 (datum_items 0 cells) (reverse code) 0 entries (omega (arith, same, h)) ∙ ap (λ n. Some (16 + (n - suc apply_place))) same
 
   pub number_of_boot : label_number 16 items boot_label ≡ Some 16
   number_of_boot = boot_number (length code) 16 (datum_items 0 cells) (reverse code) 0 entries backwards made.some

@@ -11,9 +11,10 @@ use Rattle.uasm_read.specs.Modules.{labels_in}
 use Rattle.uasm_read.specs.Links.{label_number}
 use Rattle.hum_emit.specs.declared.instruction.Instruction.{Instruction}
 use Rattle.hum_emit.specs.declared.instruction.Datum.{Datum}
-use Rattle.hum_emit.specs.Module.{code_label, unit_label, datum_label, boot_label, begins, labels_of, item_of, rest_if, code_items, datum_item, datum_items}
+use Rattle.hum_emit.specs.Module.{code_label, unit_label, datum_label, apply_label, boot_label, begins, labels_of, item_of, rest_if, code_items, datum_item, datum_items}
+use Rattle.hum_emit.specs.Runtime.{apply_place}
 use Rattle.hum_emit.specs.Made.{Descend}
-use Rattle.hum_emit.proofs.ItemLabels.{same_number, or_false, has_code, has_unit, has_datum, has_boot}
+use Rattle.hum_emit.proofs.ItemLabels.{same_number, or_false, has_code, has_unit, has_datum, has_apply, has_boot}
 
 -- ---- one item in front
 
@@ -143,3 +144,18 @@ pub boot_number : (size at : ℕ) (tail : List Item) (xs : List Instruction) (k 
 boot_number size at tail [] k entries same some = absurd (omega arith)
 boot_number size at tail (x ∷ xs) k entries same some =
     here at (item_of (labels_of size (length xs) k entries) x) _ boot_label (has_boot size (length xs) k entries ∙ eq-eqb (suc (length xs)) size same)
+
+-- the routine that applies a behaviour begins at that instruction
+pub apply_number : (size at : ℕ) (tail : List Item) (xs : List Instruction) (k : ℕ) (entries : List ℕ) → apply_place < length xs
+    → label_number at (code_items size xs k entries ++ tail) apply_label ≡ Some (at + (length xs - suc apply_place))
+apply_number size at tail [] k entries h = absurd (omega arith)
+apply_number size at tail (x ∷ xs) k entries h = elim (cases_eq (length xs) apply_place) [
+  | inl e ↦
+      here at (item_of (labels_of size (length xs) k entries) x) _ apply_label (has_apply size (length xs) k entries ∙ eq-eqb (length xs) apply_place e)
+      ∙ ap Some (let z : at ≡ at + (suc (length xs) - suc apply_place) = omega arith in z)
+  | inr n ↦
+      let above : apply_place < length xs = (let m = n in omega arith) in
+      behind at (item_of (labels_of size (length xs) k entries) x) _ apply_label (has_apply size (length xs) k entries ∙ ne_eqb (length xs) apply_place n)
+      ∙ apply_number size (at + 1) tail xs (if begins entries (length xs) then suc k else k) (rest_if (begins entries (length xs)) entries) above
+      ∙ ap Some (let z : at + 1 + (length xs - suc apply_place) ≡ at + (suc (length xs) - suc apply_place) = omega arith in z)
+]

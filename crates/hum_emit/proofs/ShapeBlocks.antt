@@ -1,11 +1,10 @@
 -- The statements of a block fit where each of them does.
-use Rattle.std.proofs.Common.{◌≡◌, refl, ap, sym, subst, ◌∙◌, ℕ, zero, suc, ◌+◌, Bool, true, false, List, [], ◌∷◌, ◌++◌, map, length, arith, length-append, append_assoc}
-use Rattle.std.specs.Prelude.{◌≤◌, ◌<◌, ◌&&◌, if◌then◌else◌}
+use Rattle.std.proofs.Common.{◌≡◌, refl, ap, sym, subst, ℕ, suc, ◌+◌, Bool, true, false, List, [], ◌∷◌, ◌++◌, map, length, arith, length-append}
+use Rattle.std.specs.Prelude.{◌≤◌, ◌<◌, if◌then◌else◌}
 use Rattle.std.proofs.lemmas.Bool.{and_parts}
 use Rattle.hum_syntax.specs.declared.tree.Stmt.{Stmt}
 use Rattle.hum_syntax.specs.Formed as tree
 use Rattle.hum_syntax.proofs.Induction.{Each, nodes}
-use Rattle.hum_core.specs.declared.resolved.CoreUnit.{CoreUnit}
 use Rattle.hum_core.specs.declared.resolved.CoreUnit.TheVariants as unit
 use Rattle.hum_core.specs.declared.resolved.CoreStmt.{CoreStmt}
 use Rattle.hum_core.specs.declared.resolved.CoreStmt.TheVariants as stmt
@@ -22,12 +21,12 @@ use Rattle.hum_core.specs.Lists.{tested_stmt}
 use Rattle.hum_core.proofs.FormedParts.{IfFunction}
 use Rattle.hum_core.proofs.ScopedNames.{Fine, fine_parts, Sees, marks_seen, group_seen}
 use Rattle.hum_emit.proofs.Sights.{judged_stmt, judged_as_found, functions_among, taken_on, behind_taken, none_ahead}
-use Rattle.hum_core.proofs.UnitPlaces.{made_stmt, Sized, sized_stmt}
+use Rattle.hum_core.proofs.UnitPlaces.{made_stmt, sized_stmt}
 use Rattle.hum_core.proofs.BoundNames.{found_stmt}
-use Rattle.hum_code.specs.Layout.{Shape, Single, Several, with_singles}
+use Rattle.hum_code.specs.Layout.{Shape, Several, with_singles}
 use Rattle.hum_emit.specs.Shapes.{in_statements, behind_statement, StatementFits, StatementsFit, FunctionIn, BlockIn}
-use Rattle.hum_emit.proofs.Walking.{Walks, walks_as, PartWalks, in_core_stmt, statement_walks, at_place, stmt_walks, statements_walk}
-use Rattle.hum_emit.proofs.ShapePlaces.{Here, here_parts, here_as, AtUnit, here_unit, AllFit, none_fit, fit_both, fit_unit, fit_as, MembersFit, ScopeFits, scope_singles, Ready, singles_more}
+use Rattle.hum_emit.proofs.Walking.{Walks, in_core_stmt, statement_walks, at_place, stmt_walks}
+use Rattle.hum_emit.proofs.ShapePlaces.{Here, here_parts, here_as, here_unit, AllFit, none_fit, fit_both, fit_unit, fit_as, MembersFit, ScopeFits, scope_singles, Ready, singles_more}
 use Rattle.hum_emit.proofs.ShapeTests.{to}
 
 -- ---- what a statement binds

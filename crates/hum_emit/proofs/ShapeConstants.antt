@@ -1,6 +1,6 @@
 -- The numbers of a formed tree are fixnums.
-use Rattle.std.proofs.Common.{◌≡◌, refl, sym, ℕ, Bool, true, false, List, [], ◌∷◌, arith, ⊎_elim}
-use Rattle.std.specs.Prelude.{◌<◌, ◌&&◌, ◌||◌, not, ◌==◌, nat_le, nat_lt, ◌^◌, ℤ, pos, negsuc, int_le}
+use Rattle.std.proofs.Common.{◌≡◌, refl, ℕ, Bool, true, false, List, [], ◌∷◌, arith, ⊎_elim}
+use Rattle.std.specs.Prelude.{◌&&◌, ◌||◌, not, ◌==◌, nat_le, nat_lt, ◌^◌, ℤ, pos, negsuc, int_le}
 use Rattle.std.specs.List.{list_all}
 use Rattle.std.proofs.lemmas.Bool.{and_parts, and_from}
 use Rattle.std.proofs.lemmas.Bool.Decides.{nat_tests}

@@ -1,6 +1,5 @@
 -- The units of a formed file in which no name is refused fit in the shapes that the walk finds.
 use Rattle.std.proofs.Common.{◌≡◌, refl, sym, subst, ◌∙◌, ap, ℕ, zero, suc, true, List, [], ◌∷◌, map, length, Option, Some, None, arith, slice_get}
-use Rattle.std.specs.Prelude.{◌≤◌}
 use Rattle.std.proofs.lemmas.List.Folds.{list_all-map}
 use Rattle.hum_syntax.specs.declared.tree.Stmt.{Stmt}
 use Rattle.hum_syntax.specs.Formed as tree
@@ -12,13 +11,13 @@ use Rattle.hum_meaning.specs.Look.{outermost}
 use Rattle.hum_meaning.specs.Scope as judged
 use Rattle.hum_meaning.specs.Scope.{Scoped, outermost_scope, most_bindings}
 use Rattle.hum_core.specs.Alike.{scope_of, Each}
-use Rattle.hum_core.specs.Units.{Scope, resolved}
+use Rattle.hum_core.specs.Units.{resolved}
 use Rattle.hum_core.specs.Lists.{tested}
 use Rattle.hum_core.proofs.ScopedNames.{Fine}
 use Rattle.hum_core.proofs.BoundNames.{found_stmt}
 use Rattle.hum_emit.proofs.Sights.{outermost_seen}
 use Rattle.hum_code.specs.Layout.{Shape}
-use Rattle.hum_emit.specs.Shapes.{outermost_shape, shapes_of, BlockIn, UnitFits, fits_to, ShapesFit}
+use Rattle.hum_emit.specs.Shapes.{outermost_shape, shapes_of, BlockIn, UnitFits, fits_to}
 use Rattle.hum_emit.specs.Laws.{ShapesOfProgramsFit}
 use Rattle.hum_emit.proofs.ShapePlaces.{themselves, as_many, Here, AllFit, Ready}
 use Rattle.hum_emit.proofs.ShapeBlocks.{S, block_fits}

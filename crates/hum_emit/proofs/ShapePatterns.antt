@@ -1,8 +1,7 @@
 -- The tests of a pattern fit where its expressions do.
-use Rattle.std.proofs.Common.{◌≡◌, refl, ap, sym, subst, ◌∙◌, ℕ, zero, suc, ◌+◌, Bool, true, false, List, [], ◌∷◌, ◌++◌, map, length, arith, length-append, append_assoc}
-use Rattle.std.specs.Prelude.{◌≤◌, ◌<◌}
-use Rattle.std.proofs.lemmas.Bool.{and_parts, true≢false}
-use Rattle.std.proofs.lemmas.List.{append-nil}
+use Rattle.std.proofs.Common.{◌≡◌, refl, ap, sym, subst, ◌∙◌, ℕ, suc, ◌+◌, true, List, [], ◌∷◌, ◌++◌, map, length, arith, length-append, append_assoc}
+use Rattle.std.specs.Prelude.{◌≤◌}
+use Rattle.std.proofs.lemmas.Bool.{and_parts}
 use Rattle.hum_syntax.specs.declared.tree.Pat.{Pat}
 use Rattle.hum_syntax.specs.Formed as tree
 use Rattle.hum_syntax.proofs.Induction.{Each, nodes}
@@ -19,7 +18,6 @@ use Rattle.hum_core.specs.declared.tested.TestArm.{TestArm}
 use Rattle.hum_core.specs.declared.tested.TestBranch.{TestBranch}
 use Rattle.hum_meaning.specs.Scope as judged
 use Rattle.hum_meaning.specs.Scope.{Place, behind, most_bindings}
-use Rattle.hum_core.specs.Agreement.{Names}
 use Rattle.hum_core.specs.Units as made
 use Rattle.hum_core.specs.Units.{Scope, in_order, item_names, OfPat}
 use Rattle.hum_core.specs.Lists.{tuple_tested, tested_pat}

@@ -1,5 +1,5 @@
 -- Where the units of a part and their shapes stand among all, and how a scope stands for a shape.
-use Rattle.std.proofs.Common.{◌≡◌, refl, ap, sym, subst, ◌∙◌, ℕ, zero, suc, ◌+◌, Bool, true, false, List, [], ◌∷◌, ◌++◌, map, length, Option, Some, None, arith, slice_get, length-append, append_assoc}
+use Rattle.std.proofs.Common.{◌≡◌, refl, ap, sym, subst, ◌∙◌, ℕ, zero, suc, ◌+◌, Bool, true, false, List, [], ◌∷◌, ◌++◌, length, Option, Some, None, arith, slice_get, length-append, append_assoc}
 use Rattle.std.specs.Prelude.{◌≤◌, ◌<◌, if◌then◌else◌}
 use Rattle.std.specs.Str.{bytes_eq}
 use Rattle.std.proofs.lemmas.List.{append-nil, map-append, length-map}
@@ -14,9 +14,8 @@ use Rattle.hum_core.specs.Agreement.{Names, newest, further, next_place, place, 
 use Rattle.hum_core.specs.Units.{Scope}
 use Rattle.hum_core.specs.Lists.{tested_unit, tested}
 use Rattle.hum_core.proofs.ScopedNames.{Sees}
-use Rattle.hum_code.specs.Layout.{Kind, Single, Several, Shape, with_singles}
-use Rattle.hum_code.specs.Code.{HasSingle}
-use Rattle.hum_emit.specs.Shapes.{in_unit, shapes_from, FunctionIn, MemberIn, SlotFits, UnitFits, fits_to}
+use Rattle.hum_code.specs.Layout.{Single, Several, Shape, with_singles}
+use Rattle.hum_emit.specs.Shapes.{in_unit, shapes_from, FunctionIn, SlotFits, UnitFits, fits_to}
 use Rattle.hum_emit.proofs.Walking.{Walks, walked_both}
 
 -- ---- places in a list

@@ -1,33 +1,28 @@
 -- Tests fit in the shape of their place.
-use Rattle.std.proofs.Common.{◌≡◌, refl, ap, sym, subst, ◌∙◌, ℕ, zero, suc, ◌+◌, Bool, true, false, List, [], ◌∷◌, ◌++◌, map, length, arith, length-append, append_assoc}
+use Rattle.std.proofs.Common.{◌≡◌, refl, ap, sym, subst, ℕ, zero, suc, ◌+◌, Bool, true, false, List, [], ◌∷◌, ◌++◌, length, arith}
 use Rattle.std.specs.Prelude.{◌≤◌, ◌<◌, nat_le, if◌then◌else◌, is_none, Some, None}
 use Rattle.std.specs.List.{list_all}
 use Rattle.std.proofs.lemmas.Bool.Decides.{nat_tests}
-use Rattle.std.proofs.lemmas.List.{append-nil, map-append}
+use Rattle.std.proofs.lemmas.List.{append-nil}
 use Rattle.hum_core.specs.declared.resolved.CoreUnit.{CoreUnit}
 use Rattle.hum_core.specs.declared.resolved.CorePat.{CorePat}
-use Rattle.hum_core.specs.declared.resolved.CoreExpr.{CoreExpr}
-use Rattle.hum_core.specs.declared.slot.Const.{Const}
 use Rattle.hum_core.specs.declared.tested.TestUnit.{TestUnit}
 use Rattle.hum_core.specs.declared.tested.TestExpr.{TestExpr, out-TestExpr}
 use Rattle.hum_core.specs.declared.tested.Test.{Test, out-Test}
-use Rattle.hum_core.specs.declared.tested.Test.TheVariants as test
 use Rattle.hum_core.specs.declared.tested.Test.TheOpen.{Test-F, TestExpr-F}
 use Rattle.hum_core.specs.declared.tested.TestArm.{TestArm}
 use Rattle.hum_core.specs.declared.tested.TestBranch.{TestBranch}
-use Rattle.hum_core.specs.declared.tested.Test.TheOpen as layer
 use Rattle.hum_meaning.specs.declared.cause.ScopeCause.TheVariants.{Twice, TooManyNames}
 use Rattle.hum_meaning.specs.Named.{Name}
 use Rattle.hum_meaning.specs.Scope as judged
 use Rattle.hum_meaning.specs.Scope.{Place, most_bindings, has, bound}
 use Rattle.hum_core.specs.Units.{Scope, OfPat}
-use Rattle.hum_core.specs.Lists.{tested_expr, tested_pat}
+use Rattle.hum_core.specs.Lists.{tested_pat}
 use Rattle.hum_core.specs.Lowering.{left_behind}
 use Rattle.hum_core.proofs.ScopedNames.{Fine}
 use Rattle.hum_code.specs.Layout.{Shape}
 use Rattle.hum_code.specs.Code.{bound_behind, bound_after}
-use Rattle.hum_emit.specs.Shapes.{Fits, ConstFits, of_one_test, after_all, EachTestFits, TestFits, NodeFits, fits_to}
-use Rattle.hum_emit.proofs.Nodes.{of_pair, of_constant, of_same, of_bind, of_skip}
+use Rattle.hum_emit.specs.Shapes.{Fits, EachTestFits, TestFits, NodeFits, fits_to}
 use Rattle.hum_emit.proofs.Walking.{in_core_pat}
 use Rattle.hum_emit.proofs.ShapePlaces.{Here, AllFit, Ready}
 

@@ -1,6 +1,6 @@
 -- Every tree in which no name is refused fits in the shape of its place.
-use Rattle.std.proofs.Common.{◌≡◌, refl, ap, sym, subst, ◌∙◌, ℕ, zero, suc, ◌+◌, Bool, true, false, ◌&&◌, List, [], ◌∷◌, ◌++◌, map, length, Some, None, arith, length-append}
-use Rattle.std.specs.Prelude.{◌≤◌, ◌<◌, nat_le}
+use Rattle.std.proofs.Common.{◌≡◌, refl, ap, sym, subst, ◌∙◌, ℕ, suc, ◌+◌, Bool, true, false, ◌&&◌, List, [], ◌∷◌, ◌++◌, map, length, Some, None, arith, length-append}
+use Rattle.std.specs.Prelude.{◌≤◌, nat_le}
 use Rattle.std.proofs.lemmas.Bool.{and_parts, true≢false}
 use Rattle.std.proofs.lemmas.Bool.Decides.{nat_tests}
 use Rattle.std.proofs.lemmas.List.{append-nil, length-map}
@@ -14,7 +14,7 @@ use Rattle.hum_syntax.specs.declared.tree.Expr.TheVariants as e
 use Rattle.hum_syntax.specs.declared.tree.Pat.TheVariants as p
 use Rattle.hum_syntax.specs.declared.tree.Stmt.TheVariants as s
 use Rattle.hum_syntax.specs.Spells.{arm, branch}
-use Rattle.hum_syntax.specs.Forms.{is_name, is_in_range, is_run, is_text}
+use Rattle.hum_syntax.specs.Forms.{is_name}
 use Rattle.hum_syntax.specs.Formed as tree
 use Rattle.hum_syntax.proofs.Folding as fold_of
 use Rattle.hum_syntax.proofs.Folding.{Steps}
@@ -30,8 +30,8 @@ use Rattle.hum_core.specs.declared.resolved.CoreExpr.{CoreExpr}
 use Rattle.hum_core.specs.declared.resolved.CoreExpr.TheVariants as expr
 use Rattle.hum_core.specs.declared.resolved.CorePat.{CorePat}
 use Rattle.hum_core.specs.declared.resolved.CorePat.TheVariants as pat
-use Rattle.hum_core.specs.declared.resolved.CoreArm.{CoreArm, roll-CoreArm}
-use Rattle.hum_core.specs.declared.resolved.CoreBranch.{CoreBranch, roll-CoreBranch}
+use Rattle.hum_core.specs.declared.resolved.CoreArm.{CoreArm}
+use Rattle.hum_core.specs.declared.resolved.CoreBranch.{CoreBranch}
 use Rattle.hum_core.specs.declared.tested.TestUnit.{TestUnit}
 use Rattle.hum_core.specs.declared.tested.TestExpr.{TestExpr, out-TestExpr}
 use Rattle.hum_core.specs.declared.tested.TestExpr.TheVariants as t
@@ -45,22 +45,21 @@ use Rattle.hum_core.specs.declared.tested.Test.TheViews.{out-roll-TestArm, out-r
 use Rattle.hum_meaning.specs.Scope as judged
 use Rattle.hum_meaning.specs.Scope.{Verdicts, Place, Binds, Function, Values, Nothing, fresh, most_bindings, bound}
 use Rattle.hum_core.specs.Alike.{with_marks}
-use Rattle.hum_core.specs.Agreement.{Names, slot_of}
+use Rattle.hum_core.specs.Agreement.{slot_of}
 use Rattle.hum_core.specs.Units as made
 use Rattle.hum_core.specs.Units.{Scope, Part, both, in_order, block, OfExpr, OfPat, OfStmt, let_stmt, slot_or_newest}
 use Rattle.hum_core.specs.Lists.{tested_expr, tested_pat, tested_arm, tested_branch, tested_stmt}
-use Rattle.hum_core.proofs.FormedParts.{IfFunction}
 use Rattle.hum_core.proofs.ScopedNames.{Fine, fine_parts, Sees, marks_seen, use_found}
 use Rattle.hum_core.proofs.UnitPlaces.{made_expr, made_pat, made_stmt, made_arm, made_branch, Sized, sized_expr, sized_pat, sized_arm, sized_branch, sized_branches}
 use Rattle.hum_core.proofs.BoundNames.{found_expr, found_pat, found_stmt, found_arm, found_branch, made_names, found_names}
 use Rattle.hum_code.specs.Layout.{Shape, with_singles}
 use Rattle.hum_core.specs.Lowering.{left_behind}
 use Rattle.hum_code.specs.Code.{bound_after, bound_behind}
-use Rattle.hum_emit.specs.Shapes.{Fits, Inside, in_all, after_all, of_one_test, FunctionIn, BlockIn, NodeFits, EachFits, ArmsFit, BranchesFit, StatementFits, ConstFits, TestFits, EachTestFits, behind_statement}
+use Rattle.hum_emit.specs.Shapes.{Fits, Inside, in_all, after_all, of_one_test, FunctionIn, BlockIn, EachFits, ArmsFit, BranchesFit, StatementFits, ConstFits, TestFits, EachTestFits, behind_statement}
 use Rattle.hum_emit.proofs.Nodes.{tested_is, tested_text, tested_var, tested_myself, tested_abs, tested_block, tested_call, tested_tuple, tested_new, tested_case, tested_if, tested_any, tested_bind, tested_constant, tested_value, tested_items, tested_one_arm, tested_one_branch}
-use Rattle.hum_emit.proofs.Walking.{Walks, PartWalks, in_core, in_core_pat, in_core_stmt, in_core_arm, in_core_branch, behind_tests, core_is, core_abs, core_block, core_call, core_tuple, core_new, core_case, core_if, core_constant, core_value, core_items, core_arm, core_branch, core_any, core_bind, core_var, core_text, core_myself, in_order_walk, each_of, expr_walks, pat_walks, arm_walks, branch_walks, built}
+use Rattle.hum_emit.proofs.Walking.{PartWalks, in_core, in_core_pat, in_core_stmt, in_core_arm, in_core_branch, core_is, core_abs, core_block, core_call, core_tuple, core_new, core_case, core_if, core_constant, core_value, core_items, core_arm, core_branch, core_any, core_bind, core_var, core_text, core_myself, in_order_walk, each_of, expr_walks, pat_walks, arm_walks, branch_walks, built}
 use Rattle.hum_emit.proofs.ShapePlaces.{Here, here_parts, here_as, here_unit, AllFit, none_fit, fit_both, fit_unit, fit_as, Ready, scope_singles, singles_more, slot_fits}
-use Rattle.hum_emit.proofs.ShapeConstants.{range_fits, run_fits, text_fits}
+use Rattle.hum_emit.proofs.ShapeConstants.{range_fits, text_fits}
 use Rattle.hum_emit.proofs.ShapeTests.{to, node_to, TestsGo, PatFit, tests_to, room}
 use Rattle.hum_emit.proofs.ShapeBlocks as blocks
 use Rattle.hum_emit.proofs.ShapeBlocks.{StmtFit, block_fits}
@@ -648,7 +647,7 @@ module _ (units : List TestUnit) (shapes : List Shape) where
     at_true = λ is. constant_fit const.True e.True (fold_of.fold_true built) (fold_of.fold_true looked) tt;
     at_false = λ is. constant_fit const.False e.False (fold_of.fold_false built) (fold_of.fold_false looked) tt;
     at_num = λ z is. constant_fit (const.Num z) (e.Num z) (fold_of.fold_num built z) (fold_of.fold_num looked z) (range_fits z (sym (fold_of.fold_num formed z) ∙ is));
-    at_sym = λ x is. constant_fit (const.Sym x) (e.Sym x) (fold_of.fold_sym built x) (fold_of.fold_sym looked x) (run_fits x (sym (fold_of.fold_sym formed x) ∙ is));
+    at_sym = λ x is. constant_fit (const.Sym x) (e.Sym x) (fold_of.fold_sym built x) (fold_of.fold_sym looked x) (sym (fold_of.fold_sym formed x) ∙ is);
     at_text = text_fit;
     at_var = var_fit;
     at_myself = myself_fit;
@@ -667,7 +666,7 @@ module _ (units : List TestUnit) (shapes : List Shape) where
     at_pat_true = λ is. constant_pat const.True p.True (fold_of.fold_pat_true built) (fold_of.fold_pat_true looked) tt;
     at_pat_false = λ is. constant_pat const.False p.False (fold_of.fold_pat_false built) (fold_of.fold_pat_false looked) tt;
     at_pat_num = λ z is. constant_pat (const.Num z) (p.Num z) (fold_of.fold_pat_num built z) (fold_of.fold_pat_num looked z) (range_fits z (sym (fold_of.fold_pat_num formed z) ∙ is));
-    at_pat_sym = λ x is. constant_pat (const.Sym x) (p.Sym x) (fold_of.fold_pat_sym built x) (fold_of.fold_pat_sym looked x) (run_fits x (sym (fold_of.fold_pat_sym formed x) ∙ is));
+    at_pat_sym = λ x is. constant_pat (const.Sym x) (p.Sym x) (fold_of.fold_pat_sym built x) (fold_of.fold_pat_sym looked x) (sym (fold_of.fold_pat_sym formed x) ∙ is);
     at_value = value_pat;
     at_pat_tuple = tuple_pat;
     at_let = let_here;

@@ -1,5 +1,5 @@
 -- The walk through the units of a part finds their shapes one after the other, and then goes on with what stands behind the part.
-use Rattle.std.proofs.Common.{◌≡◌, refl, ap, sym, subst, ◌∙◌, ℕ, suc, ◌+◌, Bool, true, false, ◌&&◌, List, [], ◌∷◌, ◌++◌, map, Some, None, append_assoc}
+use Rattle.std.proofs.Common.{◌≡◌, refl, ap, sym, subst, ◌∙◌, ℕ, suc, ◌+◌, Bool, true, false, List, [], ◌∷◌, ◌++◌, map, append_assoc}
 use Rattle.std.specs.Prelude.{sum}
 use Rattle.std.specs.List.{AllByRecursion}
 use Rattle.std.proofs.lemmas.Bool.{and_parts, true≢false}
@@ -13,7 +13,6 @@ use Rattle.hum_syntax.specs.declared.tree.Branch.{Branch}
 use Rattle.hum_syntax.specs.declared.tree.Expr.TheVariants as e
 use Rattle.hum_syntax.specs.declared.tree.Pat.TheVariants as p
 use Rattle.hum_syntax.specs.declared.tree.Stmt.TheVariants as s
-use Rattle.hum_syntax.specs.Spells.{arm, branch}
 use Rattle.hum_syntax.proofs.Folding as fold_of
 use Rattle.hum_syntax.proofs.Folding.{Steps}
 use Rattle.hum_syntax.proofs.Induction as induction
@@ -45,7 +44,7 @@ use Rattle.hum_core.proofs.FormedParts.{IfFunction}
 use Rattle.hum_core.proofs.UnitPlaces.{made_expr, made_pat, made_stmt, made_arm, made_branch}
 use Rattle.hum_code.specs.Layout.{Shape, Several, with_singles}
 use Rattle.hum_code.specs.Code.{bound_after}
-use Rattle.hum_emit.specs.Shapes.{Inside, in_all, after_all, in_expr, of_one_test, in_tests, in_statement, behind_statement, in_statements, in_unit, shapes_from}
+use Rattle.hum_emit.specs.Shapes.{Inside, in_all, after_all, in_expr, of_one_test, in_tests, in_statement, in_statements, in_unit, shapes_from}
 use Rattle.hum_emit.proofs.Nodes.{in_arm, in_branch, tested_is, tested_text, tested_var, tested_myself, tested_abs, tested_block, tested_call, tested_tuple, tested_new, tested_case, tested_if, tested_any, tested_bind, tested_constant, tested_value, tested_items, tested_one_arm, tested_one_branch, inside_constant, inside_text, inside_var, inside_myself, inside_abs, inside_block, inside_call, inside_tuple, inside_new, inside_case, inside_if, inside_arm, inside_branch, of_pair, of_constant, of_same, of_bind, of_skip}
 
 -- ---- units that stand one after the other

@@ -1,5 +1,5 @@
 -- What is so of emitted code.
-use Rattle.std.specs.Prelude.{◌≡◌, true, ℕ, ◌-◌, List, [], ◌∷◌, length}
+use Rattle.std.specs.Prelude.{◌≡◌, true, ℕ, ◌-◌, ◌<◌, ◌^◌, List, [], ◌∷◌, length}
 use Rattle.cap_words.specs.Words.{W}
 use Rattle.cap_words.specs.Seen.{Seen}
 use Rattle.uasm_read.specs.Links.{Linked}
@@ -14,7 +14,7 @@ use Rattle.hum_code.specs.Layout.{Shape}
 use Rattle.hum_code.specs.Emission.{CodeStands}
 use Rattle.hum_emit.specs.Emitted.{Emitted}
 use Rattle.hum_emit.specs.Holds.{places, place_word, Holds}
-use Rattle.hum_emit.specs.Made.{Made}
+use Rattle.hum_emit.specs.Made.{Made, Used}
 use Rattle.hum_emit.specs.Module.{module_of}
 use Rattle.hum_emit.specs.Program.{emission}
 use Rattle.hum_emit.specs.Shapes.{shapes_of, ShapesFit}
@@ -36,3 +36,14 @@ EmittedCodeStands =
 -- the units of a formed file in which no name is refused fit in the shapes of their places
 abbrev pub ShapesOfProgramsFit : Type 0
 ShapesOfProgramsFit = (file : List Stmt) → are_formed file ≡ true → Scoped file → ShapesFit (tested (resolved file)) (shapes_of (tested (resolved file)))
+
+-- what is emitted of units in shapes that fit is well made, where there is a number for each instruction and each datum
+abbrev pub EmissionsAreMade : Type 0
+EmissionsAreMade =
+    (units : List TestUnit) (shapes : List Shape) → ShapesFit units shapes → length (emission units shapes).0.code < 2 ^ 32
+    → length (emission units shapes).0.cells < 2 ^ 32
+    → Made (emission units shapes).0.code (emission units shapes).0.cells (emission units shapes).1
+
+-- and has the operations of programs alone
+abbrev pub EmissionsAreUsed : Type 0
+EmissionsAreUsed = (units : List TestUnit) (shapes : List Shape) → ShapesFit units shapes → Used (emission units shapes).0.code

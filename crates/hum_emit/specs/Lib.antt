@@ -1,10 +1,16 @@
 pub mod Emitted
 pub mod Program
 pub mod Runtime
+pub mod Rows
 pub mod Templates
 pub mod Holds
 pub mod Module
 pub mod Made
 pub mod Laws
 pub mod Shapes
+pub mod Shaping
+pub mod Rowing
+pub mod Finding
+pub mod Emitting
 pub mod ProgramLayout
+pub mod Compiled

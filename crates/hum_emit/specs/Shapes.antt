@@ -2,6 +2,7 @@
 use Rattle.std.specs.Prelude.{◌≡◌, ℕ, zero, suc, ◌^◌, ◌≤◌, ◌<◌, nat_lt, true, List, [], ◌∷◌, ◌++◌, map, length, Option, Some, None, slice_get}
 use Rattle.std.specs.List.{list_all}
 use Rattle.cap_words.specs.Fixnums.{in_range}
+use Rattle.hum_syntax.specs.Forms.{is_run}
 use Rattle.hum_core.specs.declared.slot.Const.{Const}
 use Rattle.hum_core.specs.declared.slot.Const.TheVariants as const
 use Rattle.hum_core.specs.declared.tested.TestUnit.{TestUnit}
@@ -10,8 +11,8 @@ use Rattle.hum_core.specs.declared.tested.TestStmt.{TestStmt}
 use Rattle.hum_core.specs.declared.tested.TestStmt.TheVariants as stmt
 use Rattle.hum_core.specs.declared.tested.TestExpr.{TestExpr, out-TestExpr, fold-TestExpr}
 use Rattle.hum_core.specs.declared.tested.Test.{Test, out-Test, fold-Test}
-use Rattle.hum_core.specs.declared.tested.TestArm.{TestArm, out-TestArm}
-use Rattle.hum_core.specs.declared.tested.TestBranch.{TestBranch, out-TestBranch}
+use Rattle.hum_core.specs.declared.tested.TestArm.{TestArm, out-TestArm, fold-TestArm}
+use Rattle.hum_core.specs.declared.tested.TestBranch.{TestBranch, out-TestBranch, fold-TestBranch}
 use Rattle.hum_core.specs.declared.tested.Test.TheOpen.{Test-F, TestExpr-F, TestArm-F, TestBranch-F}
 use Rattle.hum_core.specs.declared.tested.Test.TheOpen as layer
 use Rattle.hum_meaning.specs.Scope.{most_bindings}
@@ -73,6 +74,12 @@ of_one_test = fold-Test OfTest Inside Inside Inside of_test of_expr of_arm of_br
 abbrev pub in_tests : List Test → Inside
 in_tests ts = in_all (map (λ t. t.inside) (map of_one_test ts))
 
+abbrev pub in_arm : TestArm → Inside
+in_arm = fold-TestArm OfTest Inside Inside Inside of_test of_expr of_arm of_branch
+
+abbrev pub in_branch : TestBranch → Inside
+in_branch = fold-TestBranch OfTest Inside Inside Inside of_test of_expr of_arm of_branch
+
 -- the functions of a group stand behind its entry, and all but the first where the statements of the others are
 abbrev pub in_statement : TestStmt → Inside
 in_statement (stmt.Let ts e) shape = in_tests ts shape ++ in_expr e shape
@@ -129,14 +136,14 @@ pub record Fits : Type 1 where
   pub ExprFits : Shape → TestExpr → Type 0
   pub TestsFit : Shape → List Test → (values n : ℕ) → Type 0
 
--- the numbers of a text or of a name are fixnums
+-- the numbers of a text are fixnums
 abbrev pub TextFits : List ℕ → Type 0
 TextFits points = list_all (λ c. nat_lt c (2 ^ 30)) points ≡ true
 
--- so is a number
+-- so is a number; a name is a run
 abbrev pub ConstFits : Const → Type 0
 ConstFits (const.Num z) = in_range z ≡ true
-ConstFits (const.Sym name) = TextFits name
+ConstFits (const.Sym name) = is_run name ≡ true
 ConstFits _ = Unit {0}
 
 module _ (units : List TestUnit) (shapes : List Shape) where

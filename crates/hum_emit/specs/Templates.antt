@@ -1,7 +1,6 @@
 -- The code of each part of a program: the table of the emitter. Where code stands in a shape, the stack has on top a word for an environment
 -- with the entries of that shape. In a comment `S` is a stack that is not looked into, with the top on the right.
-use Rattle.std.specs.Prelude.{ℕ, suc, ◌-◌, pos, negsuc, List, [], ◌∷◌, ◌++◌, map, length, zero, Option, Some, None, slice_get}
-use Rattle.hum_core.specs.declared.slot.Slot.{Slot}
+use Rattle.std.specs.Prelude.{ℕ, suc, ◌-◌, pos, negsuc, List, [], ◌∷◌, map, length, zero, Option, Some, None, slice_get}
 use Rattle.hum_core.specs.declared.tested.TestUnit.{TestUnit}
 use Rattle.hum_core.specs.declared.tested.TestUnit.TheVariants as unit
 use Rattle.hum_core.specs.declared.tested.TestStmt.{TestStmt}
@@ -10,8 +9,8 @@ use Rattle.hum_core.specs.declared.tested.TestExpr.{TestExpr, fold-TestExpr}
 use Rattle.hum_core.specs.declared.tested.Test.{Test, fold-Test}
 use Rattle.hum_core.specs.declared.tested.Test.TheOpen.{Test-F, TestExpr-F, TestArm-F, TestBranch-F}
 use Rattle.hum_core.specs.declared.tested.Test.TheOpen as layer
-use Rattle.hum_core.specs.Numbered.{Code, Opening, Of}
-use Rattle.hum_code.specs.Layout.{Kind, Single, Several, Shape, with_singles, minus}
+use Rattle.hum_core.specs.Numbered.{Code, Of}
+use Rattle.hum_code.specs.Layout.{Single, Several, Shape, with_singles, minus}
 use Rattle.hum_emit.specs.declared.instruction.Field.TheVariants.{Constant, Place, Unit, Data}
 use Rattle.hum_emit.specs.Emitted.{Emitted, Piece, nothing, ◌▷◌, choose, calls, jump, push, dup, drop, pick, roll, pair, part, nth, quad, typeq, eq, state, myself, send, create, become, debug, nil, pair_type, function_type, block_type, actor_type, text, constant, with_field}
 use Rattle.hum_emit.specs.Runtime.{end_place, call_place, exec_place, apply_place, same_place, fail_place}

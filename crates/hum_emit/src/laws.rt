@@ -1,6 +1,7 @@
 //! What is so of emitted code.
 
-ghost use Rattle.hum_emit.specs.Laws.{LinkedHolds, EmittedCodeStands, ShapesOfProgramsFit};
+ghost use Rattle.hum_emit.specs.Compiled.{CompiledCodeMeans, ProgramsLink, LabelsArePlaces};
+ghost use Rattle.hum_emit.specs.Laws.{LinkedHolds, EmittedCodeStands, ShapesOfProgramsFit, EmissionsAreMade, EmissionsAreUsed};
 
 /// A store with the cells that the module of an emission links to holds each instruction and each datum at its place, and the boot word
 /// is the place of the instruction that was made last.
@@ -19,4 +20,33 @@ pub fn emitted_code_stands()
 /// as may be.
 pub fn shapes_of_programs_fit()
     ensures { ShapesOfProgramsFit }
+{}
+
+/// What is emitted of a program's units is well made: each word names an instruction, a unit or a datum that is there.
+pub fn emissions_are_made()
+    ensures { EmissionsAreMade }
+{}
+
+/// What is emitted of a program's units has no operation of dictionaries, deques or sponsors, and of those of actors only to send, to create
+/// and to become.
+pub fn emissions_have_few_operations()
+    ensures { EmissionsAreUsed }
+{}
+
+/// In each store that has the cells that a program's module links to, the boot word is the place of the first event's code, and each event
+/// does what the program means, whatever others do between its instructions: it commits only where its delivery is decided as committed, with
+/// a record that stands for what was gathered; it fails only where its delivery is decided as failed, with its code; and where s steps decide
+/// its delivery, it ends so or goes on, within the bound at each of its instructions.
+pub fn compiled_code_means_the_program()
+    ensures { CompiledCodeMeans }
+{}
+
+/// The module of a program links, but where it has more instructions and data than an image has room for.
+pub fn programs_link()
+    ensures { ProgramsLink }
+{}
+
+/// The labels `boot`, `apply` and `uK` of the module of a program name the first event's code, the code that applies a behaviour, and unit K's.
+pub fn labels_are_places()
+    ensures { LabelsArePlaces }
 {}

@@ -1,16 +1,30 @@
-//! The code that a program becomes: so far its definitions, what is so of it, and the module of what was emitted.
+//! The code that a program becomes: its definitions, what is so of it, and the calls that make it and its module.
 //!
 //! Code is made from the back: a piece gets the number of the instruction to go on with, and puts its own in front (`specs/Emitted.antt`).
 //! `Templates.antt` is the table of the emitter, the code of each part of a program; `Runtime.antt` the fixed code, a line an instruction;
 //! `Program.antt` all that a program becomes, whose units stand in the shapes of `Shapes.antt`, which fit: `shapes_of_programs_fit`. What is
-//! emitted stands for the program in each store that holds it: `emitted_code_stands`. `module_of` makes the module of it (`Module.antt`), and the image of a well made emission
-//! holds each instruction and each datum at its place: `linked_holds` (`Holds.antt`).
+//! emitted stands for the program in each store that holds it: `emitted_code_stands`. `emit` makes the module of a program (`Module.antt`),
+//! and the image of a well made emission holds each instruction and each datum at its place: `linked_holds` (`Holds.antt`).
 #![tactic(auto)]
 
+mod data;
+mod emitter;
+mod exprs;
 mod instruction;
 mod laws;
 mod module;
+mod routines;
+mod rows;
+mod scope;
+mod shape;
+mod shapes;
+mod statements;
+mod whole;
 
 pub use instruction::{Datum, Field, Instruction};
-pub use laws::{emitted_code_stands, linked_holds, shapes_of_programs_fit};
+pub use laws::{
+    compiled_code_means_the_program, emissions_are_made, emissions_have_few_operations,
+    emitted_code_stands, labels_are_places, linked_holds, programs_link, shapes_of_programs_fit,
+};
 pub use module::module_of;
+pub use whole::emit;

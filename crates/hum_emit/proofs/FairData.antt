@@ -1,0 +1,120 @@
+-- Texts and constants are data whose words name what is there.
+use Rattle.std.proofs.Common.{◌≡◌, refl, ap, ℕ, suc, ◌+◌, ◌<◌, ◌≤◌, lit<, ◌^◌, Bool, true, false, List, [], ◌∷◌, ◌++◌, length, Option, Some, None, arith, if◌then◌else◌}
+use Rattle.std.specs.Prelude.{◌&&◌, nat_lt}
+use Rattle.std.specs.List.{AllByRecursion, list_all}
+use Rattle.std.specs.Str.{bytes_eq}
+use Rattle.std.proofs.lemmas.List.{length-append}
+use Rattle.hum_core.specs.declared.slot.Const.{Const}
+use Rattle.hum_core.specs.declared.slot.Const.TheVariants as const
+use Rattle.hum_emit.specs.declared.instruction.Datum.{Datum}
+use Rattle.hum_emit.specs.Emitted.{Emitted, list_cells, list_field, text, symbol_cells, with_symbol, symbol_at, constant}
+use Rattle.hum_emit.specs.Made.{FieldMade, DatumMade}
+use Rattle.hum_emit.specs.Shapes.{TextFits, ConstFits}
+use Rattle.hum_emit.proofs.ShapeConstants.{run_fits}
+use Rattle.hum_emit.proofs.Fair.{Fair, Worded, code_more, cells_more, all_end}
+
+pub parts_true : (a b : Bool) → a && b ≡ true → (a ≡ true) × (b ≡ true)
+parts_true true b h = (refl, h)
+parts_true false b h = absurd (cc)
+
+pub length_list : (at : ℕ) (ps : List ℕ) → length (list_cells at ps) ≡ length ps
+length_list at [] = refl
+length_list at (n ∷ []) = refl
+length_list at (n ∷ m ∷ more) = ap suc (length_list (suc at) (m ∷ more))
+
+module _ (units : ℕ) where
+  abbrev Cells : (size total : ℕ) → List Datum → Type 0
+  Cells size total ds = AllByRecursion (DatumMade size units total) ds
+
+  list_made : (size total : ℕ) (ps : List ℕ) (at : ℕ) → TextFits ps → at + length ps ≤ total → Cells size total (list_cells at ps)
+  list_made size total [] at h le = tt
+  list_made size total (n ∷ []) at h le = (record { kind = lit< tt; first = (parts_true (nat_lt n (2 ^ 30)) true h).0; second = lit< tt }, tt)
+  list_made size total (n ∷ m ∷ more) at h le =
+      let parts = parts_true (nat_lt n (2 ^ 30)) (list_all (λ c. nat_lt c (2 ^ 30)) (m ∷ more)) h in (
+        record { kind = lit< tt; first = parts.0; second = omega (arith, le) },
+        list_made size total (m ∷ more) (suc at) parts.1 (omega (arith, le)),
+      )
+
+  list_word : (size total : ℕ) (ps : List ℕ) (at : ℕ) → at + length ps ≤ total → FieldMade size units total (list_field at ps)
+  list_word size total [] at le = lit< tt
+  list_word size total (n ∷ more) at le = omega (arith, le)
+
+  -- further data
+  module _ (s : Emitted) (fair : Fair units s) (ds : List Datum) (made : Cells (length s.code) (length s.cells + length ds) ds) where
+    abbrev both : List Datum
+    both = s.cells ++ ds
+
+    how_many : length both ≡ length s.cells + length ds
+    how_many = length-append s.cells ds
+
+    pub more_data : length s.cells ≤ length both
+    more_data = let is = how_many in omega (arith, is)
+
+    same_code : length s.code ≤ length s.code
+    same_code = omega arith
+
+    pub fair_data : (symbols : List ℕ → Option ℕ) → ((name : List ℕ) (n : ℕ) → symbols name ≡ Some n → n < length both)
+        → Fair units (record s { cells = both; symbols = symbols })
+    fair_data symbols known = record {
+      instructions = code_more units (length s.code) (length s.code) (length s.cells) (length both) same_code more_data s.code fair.instructions;
+      cells = all_end units (DatumMade (length s.code) units (length both)) s.cells ds
+          (cells_more units (length s.code) (length s.code) (length s.cells) (length both) same_code more_data s.cells fair.cells)
+          (cells_more units (length s.code) (length s.code) (length s.cells + length ds) (length both) same_code (let is = how_many in omega (arith, is)) ds made);
+      symbols = known;
+      fixed = fair.fixed;
+    }
+
+  pub text_fair : (points : List ℕ) → TextFits points → (s : Emitted) → Fair units s → Worded units s (text points s)
+  text_fair points h s fair =
+      let n = length s.cells in
+      let ds = list_cells n points in
+      let many = length_list n points in
+      let more = length-append s.cells ds in
+      let cells = list_made (length s.code) (n + length ds) points n h (omega (arith, many)) in
+      let up = more_data s fair ds cells in
+      record {
+        fair = fair_data s fair ds cells s.symbols (λ name i e. let low = fair.symbols name i e in omega (arith, up, low));
+        field = list_word (length s.code) (length (s.cells ++ ds)) points n (omega (arith, many, more));
+        code = refl;
+        cells = up;
+      }
+
+  symbol_made : (size total : ℕ) (name : List ℕ) (at : ℕ) → TextFits name → suc at + length name ≤ total → Cells size total (symbol_cells at name)
+  symbol_made size total name at h le = (
+    record { kind = lit< tt; first = list_word size total name (suc at) le; second = lit< tt },
+    list_made size total name (suc at) h le,
+  )
+
+  symbols_known : (symbols : List ℕ → Option ℕ) (name : List ℕ) (now total : ℕ) → ((other : List ℕ) (n : ℕ) → symbols other ≡ Some n → n < total) → now < total
+      → (other : List ℕ) (n : ℕ) → with_symbol name now symbols other ≡ Some n → n < total
+  symbols_known symbols name now total known low other n h = by_test (bytes_eq other name) h
+    where
+      by_test : (t : Bool) → (if t then Some now else symbols other) ≡ Some n → n < total
+      by_test true e = let is : now ≡ n = cc in omega (arith, is, low)
+      by_test false e = known other n e
+
+  symbol_fair : (o : Option ℕ) (name : List ℕ) → TextFits name → (s : Emitted) → s.symbols name ≡ o → Fair units s → Worded units s (symbol_at o name s)
+  symbol_fair (Some n) name h s is fair = record { fair = fair; field = fair.symbols name n is; code = refl; cells = omega arith }
+  symbol_fair None name h s is fair =
+      let n = length s.cells in
+      let ds = symbol_cells n name in
+      let many = length_list (suc n) name in
+      let more = length-append s.cells ds in
+      let cells = symbol_made (length s.code) (n + length ds) name n h (omega (arith, many)) in
+      let up = more_data s fair ds cells in
+      let here : n < length (s.cells ++ ds) = omega (arith, more) in
+      record {
+        fair = fair_data s fair ds cells (with_symbol name n s.symbols)
+            (symbols_known s.symbols name n (length (s.cells ++ ds)) (λ other i e. let low = fair.symbols other i e in omega (arith, up, low)) here);
+        field = here;
+        code = refl;
+        cells = up;
+      }
+
+  pub constant_fair : (x : Const) → ConstFits x → (s : Emitted) → Fair units s → Worded units s (constant x s)
+  constant_fair const.Undef h s fair = record { fair = fair; field = lit< tt; code = refl; cells = omega arith }
+  constant_fair const.Nil h s fair = record { fair = fair; field = lit< tt; code = refl; cells = omega arith }
+  constant_fair const.True h s fair = record { fair = fair; field = lit< tt; code = refl; cells = omega arith }
+  constant_fair const.False h s fair = record { fair = fair; field = lit< tt; code = refl; cells = omega arith }
+  constant_fair (const.Num n) h s fair = record { fair = fair; field = h; code = refl; cells = omega arith }
+  constant_fair (const.Sym name) h s fair = symbol_fair (s.symbols name) name (run_fits name h) s refl fair

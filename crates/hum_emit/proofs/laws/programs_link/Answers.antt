@@ -1,0 +1,5 @@
+use Rattle.hum_emit.proofs.Compiling.{programs_link}
+use Rattle.hum_emit.proofs.laws.programs_link.Goals as goal
+
+pub returns : goal.returns
+returns c = programs_link

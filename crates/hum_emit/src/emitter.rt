@@ -1,0 +1,293 @@
+// What is emitted so far, and single instructions and data. Code is made from the back: each call gets the number `k` of the instruction to
+// go on with, and gives the number of its own first one. There are fewer than 2^32 instructions, and so many data: one more is refused as
+// want of memory.
+
+ghost use Rattle.std.specs.Prelude.{◌≡◌, ℕ, pos, ◌∷◌, [], length, IfOk, OnOk};
+ghost use Rattle.hum_code.specs.Layout.{minus};
+ghost use Rattle.hum_emit.specs.declared.instruction.Field.TheVariants as field;
+ghost use Rattle.hum_emit.specs.Emitted as spec;
+ghost use Rattle.hum_emit.specs.Emitting.{emitted, with_cells, named, only_code};
+
+use crate::instruction::{Datum, Field, Instruction};
+use std::alloc::{AllocError, Global};
+use std::collections::HashMap;
+
+/// The numbers of the constants.
+pub const UNDEF: Field = Field::Constant(0);
+
+pub const NIL: Field = Field::Constant(1);
+
+pub const FALSE: Field = Field::Constant(2);
+
+pub const TRUE: Field = Field::Constant(3);
+
+pub const ACTOR_TYPE: u32 = 6;
+
+pub const PAIR_TYPE: u32 = 10;
+
+pub const SYMBOL_TYPE: u32 = 13;
+
+pub const FUNCTION_TYPE: u32 = 14;
+
+pub const BLOCK_TYPE: u32 = 15;
+
+/// The instructions and the data in the order in which they were made, and the datum of each symbol that has one.
+#[derive(Drop)]
+pub struct Emitter<'a> {
+    code: Vec<Instruction>,
+    cells: Vec<Datum>,
+    symbols: HashMap<&'a [u8], u32>,
+}
+
+// A number of an instruction or a datum.
+fn number(count: usize) -> Result<u32, AllocError>
+    ensures { IfOk result (λ number. number ≡ count) }
+{
+    if count > u32::MAX as usize {
+        return Err(AllocError);
+    }
+    Ok(count as u32)
+}
+
+// The operand of that number.
+pub fn operand(count: usize) -> Result<Field, AllocError>
+    ensures { IfOk result (λ word. word ≡ field.Number (pos count)) }
+{
+    if count > i32::MAX as usize {
+        return Err(AllocError);
+    }
+    Ok(Field::Number(count as i32))
+}
+
+// The operand that reads the tail of a list after so many items.
+fn minus(count: usize) -> Result<Field, AllocError>
+    ensures { IfOk result (λ word. word ≡ field.Number (minus count)) }
+{
+    if count > i32::MAX as usize {
+        return Err(AllocError);
+    }
+    Ok(Field::Number(-(count as i32)))
+}
+
+impl<'a> Emitter<'a> {
+    /// Begins with that code.
+    pub fn start(alloc: Global, code: Vec<Instruction>) -> Emitter<'a>
+        ensures { emitted result ≡ only_code code.items }
+    {
+        Emitter {
+            code,
+            cells: Vec::new(alloc),
+            symbols: HashMap::new(alloc),
+        }
+    }
+
+    /// The instructions and the data.
+    #[tactic(auto, unfolding(crate::specs::Emitting::emitted))]
+    pub fn parts(self) -> (Vec<Instruction>, Vec<Datum>)
+        ensures code { result.0.items ≡ (emitted self.entry).code }
+        ensures cells { result.1.items ≡ (emitted self.entry).cells }
+    {
+        (self.code, self.cells)
+    }
+
+    /// One instruction.
+    #[tactic(auto, unfolding(crate::specs::Emitting::emitted))]
+    fn put(&mut self, instruction: Instruction) -> Result<u32, AllocError>
+        ensures { IfOk result (λ at. (emitted self.new, at) ≡ spec.put instruction (emitted self.old)) }
+    {
+        let at = number(self.code.len())?;
+        self.code.push(instruction)?;
+        Ok(at)
+    }
+
+    /// One instruction that goes on with what comes next.
+    fn one(&mut self, operation: u32, field: Field, k: u32) -> Result<u32, AllocError>
+        ensures { IfOk result (λ at. (emitted self.new, at) ≡ spec.one operation field k (emitted self.old)) }
+    {
+        self.put(Instruction {
+            operation,
+            field,
+            next: Some(k),
+        })
+    }
+
+    /// Goes on with what comes next where the value on top is true, and else at `miss`.
+    pub fn choose(&mut self, miss: u32, k: u32) -> Result<u32, AllocError>
+        ensures { IfOk result (λ at. (emitted self.new, at) ≡ spec.choose miss k (emitted self.old)) }
+    {
+        self.put(Instruction {
+            operation: 15,
+            field: Field::Place(k),
+            next: Some(miss),
+        })
+    }
+
+    /// Goes to a routine, which comes back to what comes next.
+    pub fn calls(&mut self, routine: u32, k: u32) -> Result<u32, AllocError>
+        ensures { IfOk result (λ at. (emitted self.new, at) ≡ spec.calls routine k (emitted self.old)) }
+    {
+        self.put(Instruction {
+            operation: 0,
+            field: Field::Place(k),
+            next: Some(routine),
+        })
+    }
+
+    /// Goes where the value on top says.
+    pub fn jump(&mut self) -> Result<u32, AllocError>
+        ensures { IfOk result (λ at. (k : ℕ) → (emitted self.new, at) ≡ spec.jump k (emitted self.old)) }
+    {
+        self.put(Instruction {
+            operation: 16,
+            field: UNDEF,
+            next: None,
+        })
+    }
+
+    pub fn push(&mut self, word: Field, k: u32) -> Result<u32, AllocError>
+        ensures { IfOk result (λ at. (emitted self.new, at) ≡ spec.push word k (emitted self.old)) }
+    {
+        self.one(0, word, k)
+    }
+
+    pub fn dup(&mut self, n: usize, k: u32) -> Result<u32, AllocError>
+        ensures { IfOk result (λ at. (emitted self.new, at) ≡ spec.dup n k (emitted self.old)) }
+    {
+        self.one(1, operand(n)?, k)
+    }
+
+    pub fn drop(&mut self, n: usize, k: u32) -> Result<u32, AllocError>
+        ensures { IfOk result (λ at. (emitted self.new, at) ≡ spec.drop n k (emitted self.old)) }
+    {
+        self.one(2, operand(n)?, k)
+    }
+
+    pub fn pick(&mut self, n: usize, k: u32) -> Result<u32, AllocError>
+        ensures { IfOk result (λ at. (emitted self.new, at) ≡ spec.pick n k (emitted self.old)) }
+    {
+        self.one(3, operand(n)?, k)
+    }
+
+    pub fn pair(&mut self, n: usize, k: u32) -> Result<u32, AllocError>
+        ensures { IfOk result (λ at. (emitted self.new, at) ≡ spec.pair n k (emitted self.old)) }
+    {
+        self.one(6, operand(n)?, k)
+    }
+
+    pub fn part(&mut self, n: usize, k: u32) -> Result<u32, AllocError>
+        ensures { IfOk result (λ at. (emitted self.new, at) ≡ spec.part n k (emitted self.old)) }
+    {
+        self.one(7, operand(n)?, k)
+    }
+
+    pub fn state(&mut self, n: usize, k: u32) -> Result<u32, AllocError>
+        ensures { IfOk result (λ at. (emitted self.new, at) ≡ spec.state n k (emitted self.old)) }
+    {
+        self.one(18, operand(n)?, k)
+    }
+
+    pub fn roll(&mut self, n: usize, k: u32) -> Result<u32, AllocError>
+        ensures { IfOk result (λ at. (emitted self.new, at) ≡ spec.roll (pos n) k (emitted self.old)) }
+    {
+        self.one(4, operand(n)?, k)
+    }
+
+    pub fn nth(&mut self, n: usize, k: u32) -> Result<u32, AllocError>
+        ensures { IfOk result (λ at. (emitted self.new, at) ≡ spec.nth (pos n) k (emitted self.old)) }
+    {
+        self.one(8, operand(n)?, k)
+    }
+
+    /// What is left of a list behind `n` items.
+    pub fn tail(&mut self, n: usize, k: u32) -> Result<u32, AllocError>
+        ensures { IfOk result (λ at. (emitted self.new, at) ≡ spec.nth (minus n) k (emitted self.old)) }
+    {
+        self.one(8, minus(n)?, k)
+    }
+
+    /// A cell of a type with two words more.
+    pub fn quad(&mut self, k: u32) -> Result<u32, AllocError>
+        ensures { IfOk result (λ at. (emitted self.new, at) ≡ spec.quad (pos 3) k (emitted self.old)) }
+    {
+        self.one(9, Field::Number(3), k)
+    }
+
+    pub fn typeq(&mut self, constant: u32, k: u32) -> Result<u32, AllocError>
+        ensures { IfOk result (λ at. (emitted self.new, at) ≡ spec.typeq constant k (emitted self.old)) }
+    {
+        self.one(11, Field::Constant(constant), k)
+    }
+
+    pub fn eq(&mut self, word: Field, k: u32) -> Result<u32, AllocError>
+        ensures { IfOk result (λ at. (emitted self.new, at) ≡ spec.eq word k (emitted self.old)) }
+    {
+        self.one(12, word, k)
+    }
+
+    pub fn myself(&mut self, k: u32) -> Result<u32, AllocError>
+        ensures { IfOk result (λ at. (emitted self.new, at) ≡ spec.myself k (emitted self.old)) }
+    {
+        self.one(19, Field::Number(0), k)
+    }
+
+    pub fn actor_send(&mut self, k: u32) -> Result<u32, AllocError>
+        ensures { IfOk result (λ at. (emitted self.new, at) ≡ spec.send k (emitted self.old)) }
+    {
+        self.one(20, Field::Number(0), k)
+    }
+
+    pub fn actor_create(&mut self, k: u32) -> Result<u32, AllocError>
+        ensures { IfOk result (λ at. (emitted self.new, at) ≡ spec.create k (emitted self.old)) }
+    {
+        self.one(20, Field::Number(2), k)
+    }
+
+    pub fn actor_become(&mut self, k: u32) -> Result<u32, AllocError>
+        ensures { IfOk result (λ at. (emitted self.new, at) ≡ spec.become k (emitted self.old)) }
+    {
+        self.one(20, Field::Number(4), k)
+    }
+
+    pub fn debug(&mut self, k: u32) -> Result<u32, AllocError>
+        ensures { IfOk result (λ at. (emitted self.new, at) ≡ spec.debug k (emitted self.old)) }
+    {
+        self.one(26, UNDEF, k)
+    }
+
+    /// The number of the next datum.
+    #[tactic(auto, unfolding(crate::specs::Emitting::emitted))]
+    pub fn next_datum(&self) -> Result<u32, AllocError>
+        ensures { IfOk result (λ at. at ≡ length (emitted self.now).cells) }
+    {
+        number(self.cells.len())
+    }
+
+    /// One datum.
+    #[tactic(auto, unfolding(crate::specs::Emitting::emitted))]
+    pub fn datum(&mut self, datum: Datum) -> Result<(), AllocError>
+        ensures { OnOk result (emitted self.new ≡ with_cells (datum ∷ []) (emitted self.old)) }
+    {
+        self.cells.push(datum)?;
+        Ok(())
+    }
+
+    /// The datum of a symbol that has one.
+    #[tactic(auto, unfolding(crate::specs::Emitting::emitted))]
+    pub fn symbol(&self, name: &[u8]) -> Option<u32>
+        ensures { result ≡ (emitted self.now).symbols name.now }
+    {
+        match self.symbols.get(name) {
+            Some(at) => Some(*at),
+            None => None,
+        }
+    }
+
+    /// From here on the symbol has that datum.
+    #[tactic(auto, unfolding(crate::specs::Emitting::emitted))]
+    pub fn name_symbol(&mut self, name: &'a [u8], at: u32) -> Result<(), AllocError>
+        ensures { OnOk result (emitted self.new ≡ named name.now at (emitted self.old)) }
+    {
+        self.symbols.insert(name, at)?;
+        Ok(())
+    }
+}

@@ -1,0 +1,137 @@
+// The emission of whole programs.
+
+ghost use Rattle.std.specs.Prelude.{◌≡◌, ◌<◌, ◌^◌, map, slice_index, OnOk, IfOk};
+ghost use Rattle.hum_emit.specs.Compiled.{compiled, compiled_module};
+ghost use Rattle.hum_emit.specs.Emitting.{emitted, with_cells};
+ghost use Rattle.hum_emit.specs.Program as spec;
+ghost use Rattle.hum_emit.specs.Rowing.{shape_at};
+ghost use Rattle.hum_emit.specs.Runtime.{routine_places};
+ghost use Rattle.hum_emit.specs.Shapes as shaped;
+ghost use Rattle.hum_emit.specs.Templates.{push_data, boot_code, units_code};
+
+use crate::emitter::Emitter;
+use crate::instruction::{Datum, Field, Instruction};
+use crate::module::module_of;
+use crate::routines::{END, ROUTINES, runtime};
+use crate::shape::Shape;
+use crate::shapes::{Shapes, shapes_of};
+use crate::statements::unit;
+use hum_core::{Program, TestUnit};
+use std::alloc::{AllocError, Global};
+use uasm_read::Module;
+
+/// What is emitted of a program, and the numbers of its units' first instructions.
+#[derive(Drop)]
+struct Emission {
+    code: Vec<Instruction>,
+    cells: Vec<Datum>,
+    entries: Vec<u32>,
+}
+
+// The units from the last to the first, each in its shape; and the numbers of their first instructions.
+fn units<'a>(
+    alloc: Global,
+    out: &mut Emitter<'a>,
+    shapes: &Shapes<'a>,
+    units: &'a [TestUnit],
+) -> Result<Vec<u32>, AllocError>
+    requires { map (shape_at shapes.now.rows) shapes.now.tops.items ≡ shaped.shapes_of units.now }
+    ensures { IfOk result (λ entries. (emitted out.new, entries.items) ≡ units_code units.now (shaped.shapes_of units.now) (emitted out.old)) }
+{
+    let count = units.len();
+    let mut entries = Vec::new(alloc);
+    let mut shape = Shape::new(alloc);
+    for i in 0..count {
+        shapes.fill(alloc, count - 1 - i, &mut shape)?;
+        entries.push(unit(out, &mut shape, &units[count - 1 - i])?)?;
+    }
+    entries.reverse();
+    Ok(entries)
+}
+
+// The cells of the built-in functions.
+fn routine_cells(out: &mut Emitter<'_>) -> Result<(), AllocError>
+    ensures { OnOk result (emitted out.new ≡ with_cells (spec.routine_cells 0 routine_places) (emitted out.old)) }
+{
+    for i in 0..12 {
+        out.datum(Datum {
+            kind: 14,
+            first: Field::Place(ROUTINES[i]),
+            second: Field::Number(i as i32),
+        })?;
+    }
+    Ok(())
+}
+
+// The cells of the built-in functions are put on the stack, the newest entry last.
+fn functions(out: &mut Emitter<'_>, k: u32) -> Result<u32, AllocError>
+    ensures { IfOk result (λ at. (emitted out.new, at) ≡ push_data 0 12 k (emitted out.old)) }
+{
+    let mut at = k;
+    for i in 0..12 {
+        at = out.push(Field::Data(11 - i), at)?;
+    }
+    Ok(at)
+}
+
+// The code of the first event: the outermost environment is put on the stack, and unit 0 runs in it.
+fn boot(out: &mut Emitter<'_>, k: u32) -> Result<u32, AllocError>
+    ensures { IfOk result (λ at. (emitted out.new, at) ≡ boot_code k (emitted out.old)) }
+{
+    let k = out.pair(14, k)?;
+    let k = out.state(2, k)?;
+    let k = out.state(1, k)?;
+    let k = functions(out, k)?;
+    let k = out.push(Field::Constant(1), k)?;
+    out.push(Field::Place(END), k)
+}
+
+fn first_of(entries: &[u32]) -> u32
+    ensures { result ≡ slice_index entries.now 0 }
+{
+    match entries {
+        [entry, ..] => *entry,
+        _ => 0,
+    }
+}
+
+// The emission of a program.
+fn emission_of(alloc: Global, program: &[TestUnit]) -> Result<Emission, AllocError>
+    ensures { IfOk result (λ e. (e.code.items ≡ (compiled program.now).0.code) × (e.cells.items ≡ (compiled program.now).0.cells) × (e.entries.items ≡ (compiled program.now).1)) }
+{
+    let mut out = Emitter::start(alloc, runtime(alloc)?);
+    routine_cells(&mut out)?;
+    let shapes = shapes_of(alloc, program)?;
+    let entries = units(alloc, &mut out, &shapes, program)?;
+    boot(&mut out, first_of(entries.as_slice()))?;
+    let (code, cells) = out.parts();
+    Ok(Emission {
+        code,
+        cells,
+        entries,
+    })
+}
+
+// There is a number for each of so many.
+fn few(count: usize) -> Result<(), AllocError>
+    ensures { OnOk result (count < 2 ^ 32) }
+{
+    if count > u32::MAX as usize {
+        return Err(AllocError);
+    }
+    Ok(())
+}
+
+/// The module of a program, whose code does what the program means: `compiled_code_means_the_program`. Only want of memory is an error, which
+/// 2^32 instructions or data are too.
+pub fn emit(alloc: Global, program: &Program) -> Result<Module, AllocError>
+    requires { shaped.ShapesFit program.now.units (shaped.shapes_of program.now.units) }
+    ensures { IfOk result (λ made. made ≡ compiled_module program.now.units) }
+{
+    let emission = emission_of(alloc, program.units.as_slice())?;
+    let code = emission.code.as_slice();
+    let cells = emission.cells.as_slice();
+    few(code.len())?;
+    few(cells.len())?;
+    module_of(alloc, code, cells, emission.entries.as_slice())
+}

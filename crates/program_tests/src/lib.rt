@@ -1,0 +1,7 @@
+//! The tests of whole programs, from their text to what they write and how their events end.
+//!
+//! A crate that has tests is proved once more with them, so they stand here, above the crates that they call.
+#![tactic(auto)]
+
+#[cfg(test)]
+mod programs;
