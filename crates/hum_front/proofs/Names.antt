@@ -1,0 +1,121 @@
+-- Names and their tokens.
+use Rattle.std.proofs.Common.{◌≡◌, refl, sym, ap, ◌∙◌, subst, arith, ℕ, zero, suc, ◌+◌, ◌-◌, ◌<◌, ◌==◌, Bool, true, false, List, [], ◌∷◌, ◌++◌, length, map, Option, Some, None, ◌⊎◌, inl, inr, if◌then◌else◌}
+use Rattle.std.specs.Prelude.{Result, Ok, Err}
+use Rattle.std.proofs.lemmas.Bool.Decides.{nat_tests}
+use Rattle.hum_syntax.specs.Forms.{Bytes}
+use Rattle.hum_syntax.specs.declared.token.TokenKind.{TokenKind}
+use Rattle.hum_syntax.specs.declared.token.TokenKind.TheVariants as k
+use Rattle.hum_syntax.specs.declared.tree.Stmt.{Stmt}
+use Rattle.hum_syntax.specs.Names.{name_of_kind, names_of, names_of_kinds}
+use Rattle.hum_syntax.specs.Tokens.{Placed, kinds_of}
+use Rattle.hum_syntax.specs.Spells.{IsStmts}
+use Rattle.hum_meaning.specs.declared.cause.ScopeCause.{ScopeCause}
+use Rattle.hum_meaning.specs.Scope.{Verdicts, verdicts, first_from, first_refused, Scoped}
+use Rattle.hum_meaning.proofs.JudgedNames.{each-name-is-judged}
+use Rattle.hum_syntax.proofs.NamedTrees.{spelled_names}
+use Rattle.hum_scope.specs.Told.{Told}
+use Rattle.hum_scope.specs.declared.refusal.ScopeError.{ScopeError}
+use Rattle.hum_scope.specs.declared.refusal.ScopeError.TheVariants.{NoMemory, Refused}
+use Rattle.hum_scope.specs.declared.refusal.ScopeRefused.{ScopeRefused}
+use Rattle.std.specs.Prelude.{is_none, ◌↔◌}
+use Rattle.std.specs.List.{list_all}
+use Rattle.hum_front.specs.Places.{is_name_kind, name_place}
+
+-- a token is a name, or no name
+pub named : (kind : TokenKind) → ((name : Bytes) × (kind ≡ k.Name name)) ⊎ ((is_name_kind kind ≡ false) × (name_of_kind kind ≡ []))
+named (k.Name name) = inl (name, refl)
+named (k.Number z) = inr (refl, refl)
+named (k.Keyword w) = inr (refl, refl)
+named k.Wildcard = inr (refl, refl)
+named k.Undefined = inr (refl, refl)
+named (k.Symbol s) = inr (refl, refl)
+named (k.Text cs) = inr (refl, refl)
+named k.CallParen = inr (refl, refl)
+named k.ParenLeft = inr (refl, refl)
+named k.ParenRight = inr (refl, refl)
+named k.SquareLeft = inr (refl, refl)
+named k.SquareRight = inr (refl, refl)
+named k.Comma = inr (refl, refl)
+named k.Dot = inr (refl, refl)
+named k.Equals = inr (refl, refl)
+named k.Colon = inr (refl, refl)
+named k.Dollar = inr (refl, refl)
+named k.Backslash = inr (refl, refl)
+
+pub not_last : (n : ℕ) → (suc n == 0) ≡ false
+not_last n = grind (arith, nat_tests)
+
+step_is : (n p : ℕ) (ts : List Placed) → name_place ts n ≡ Some p → name_place ts (suc n - 1) ≡ Some p
+step_is n p ts h = let e : suc n - 1 ≡ n = omega arith in rw e h
+
+-- so the name of each number that is below theirs has a place
+abbrev There : List Placed → Type 0
+There ts = (n : ℕ) → n < length (names_of_kinds (kinds_of ts)) → (p : ℕ) × (name_place ts n ≡ Some p)
+
+there_by : (t : Placed) (ts : List Placed) → There ts → (n : ℕ) → n < length (names_of_kinds (kinds_of (t ∷ ts)))
+    → ((name : Bytes) × (t.kind ≡ k.Name name)) ⊎ ((is_name_kind t.kind ≡ false) × (name_of_kind t.kind ≡ []))
+    → (p : ℕ) × (name_place (t ∷ ts) n ≡ Some p)
+there_by t ts there zero h (inl w) = (t.from, rw (ap is_name_kind w.1) refl)
+there_by t ts there (suc n) h (inl w) =
+    let less : suc n < suc (length (names_of_kinds (kinds_of ts))) =
+        subst (λ kind. suc n < length (name_of_kind kind ++ names_of_kinds (kinds_of ts))) w.1 h in
+    let more = there n (omega (arith, less)) in
+    (more.0, rw (ap is_name_kind w.1, not_last n) (step_is n more.0 ts more.1))
+there_by t ts there n h (inr w) =
+    let less : n < length (names_of_kinds (kinds_of ts)) = subst (λ names. n < length (names ++ names_of_kinds (kinds_of ts))) w.1 h in
+    let more = there n less in
+    (more.0, rw w.0 more.1)
+
+pub name_there : (ts : List Placed) → There ts
+name_there [] n h = absurd (omega (arith, h))
+name_there (t ∷ ts) n h = there_by t ts (name_there ts) n h (named t.kind)
+
+abbrev pub number_in : Option (ℕ × ScopeCause) → ℕ
+number_in None = 0
+number_in (Some first) = first.0
+
+-- the first name that is refused is one of them
+first_within : (m : ℕ) (vs : Verdicts) (n : ℕ) (cause : ScopeCause) → first_from m vs ≡ Some (n, cause) → n < m + length vs
+first_within m [] n cause h = cc h
+first_within m (None ∷ vs) n cause h = let less : n < suc m + length vs = first_within (suc m) vs n cause h in omega arith
+first_within m (Some c ∷ vs) n cause h = let same : m ≡ n = ap number_in h in omega arith
+
+pub refused_named : (ts : List Placed) (file : List Stmt) (levels n : ℕ) (cause : ScopeCause) → IsStmts levels (kinds_of ts) file
+    → first_refused file ≡ Some (n, cause) → (p : ℕ) × (name_place ts n ≡ Some p)
+refused_named ts file levels n cause spells first =
+    let within = first_within 0 (verdicts file) n cause first in
+    let same : length (verdicts file) ≡ length (names_of_kinds (kinds_of ts)) = each-name-is-judged file ∙ ap length (spelled_names levels (kinds_of ts) file spells) in
+    name_there ts n (omega (arith, within, same))
+
+none_first : (n : ℕ) (vs : Verdicts) → list_all is_none vs ≡ true → first_from n vs ≡ None
+none_first n [] h = refl
+none_first n (None ∷ vs) h = none_first (suc n) vs h
+none_first n (Some cause ∷ vs) h = cc h
+
+all_none : (n : ℕ) (vs : Verdicts) → first_from n vs ≡ None → list_all is_none vs ≡ true
+all_none n [] h = refl
+all_none n (None ∷ vs) h = all_none (suc n) vs h
+all_none n (Some cause ∷ vs) h = cc h
+
+pub scoped-trees : (file : List Stmt) → Scoped file ↔ (first_refused file ≡ None)
+scoped-trees file = (none_first 0 (verdicts file), all_none 0 (verdicts file))
+
+-- ---- what is told of a tree
+
+pub told_refused : (A : Type 0) (first : Option (ℕ × ScopeCause)) (why : ScopeRefused) → Told {A = A} first (Err (Refused why)) → first ≡ Some (why.at, why.cause)
+told_refused A None why h = absurd h
+told_refused A (Some first) why h = ap Some h
+
+told_none : (A : Type 0) (first : Option (ℕ × ScopeCause)) (a : A) → Told first (Ok a) → first ≡ None
+told_none A None a h = refl
+told_none A (Some first) a h = absurd h
+
+pub told_scoped : (A : Type 0) (file : List Stmt) (a : A) → Told (first_refused file) (Ok a) → Scoped file
+told_scoped A file a h = (scoped-trees file).1 (told_none A (first_refused file) a h)
+
+pub refused_first : (A : Type 0) (first : Option (ℕ × ScopeCause)) (r : Result A ScopeError) (e : ScopeError) (why : ScopeRefused) → Told first r → r ≡ Err e → e ≡ Refused why
+    → first ≡ Some (why.at, why.cause)
+refused_first A first r e why told is err = told_refused A first why (subst (λ r. Told {A = A} first r) (is ∙ ap Err err) told)
+
+pub scoped_first : (A : Type 0) (file : List Stmt) (r : Result A ScopeError) (a : A) → Told (first_refused file) r → r ≡ Ok a → Scoped file
+scoped_first A file r a told is = told_scoped A file a (subst (λ r. Told {A = A} (first_refused file) r) is told)

@@ -1,0 +1,5 @@
+use Rattle.hum_front.proofs.Slices.{names_stand}
+use Rattle.hum_front.proofs.laws.names_stand_at_their_places.Goals as goal
+
+pub returns : goal.returns
+returns c = names_stand

@@ -1,0 +1,13 @@
+pub mod Program
+pub mod Journal
+pub mod Spent
+pub mod Standing
+pub mod Legal
+pub mod Causes
+pub mod Next
+pub mod Order
+pub mod Written
+pub mod Emitted
+pub mod Laws
+pub mod Complete
+pub mod Headline

@@ -1,0 +1,40 @@
+-- What a turn makes of what a state stands for.
+use Rattle.std.specs.Prelude.{◌≡◌, ◌⊎◌, ℕ, ◌+◌, List, [], ◌∷◌, ◌++◌, Some}
+use Rattle.std.proofs.Common.{inl, inr}
+use Rattle.instr_table.specs.declared.charge.Quota.{Quota}
+use Rattle.hum_sim.specs.Causes.{spent_of, spent_by, root_spent}
+use Rattle.cap_words.specs.declared.word.Quad.{Quad}
+use Rattle.vm_turn.specs.declared.journal.Entry.{Entry}
+use Rattle.vm_turn.specs.State.{State}
+use Rattle.hum_meaning.specs.Deliver.{Configuration}
+use Rattle.hum_meaning.specs.After as after
+use Rattle.hum_core.specs.TestLists.{Tests, tests_language}
+use Rattle.hum_code.specs.Layout.{Layout}
+use Rattle.hum_sim.specs.Spent.{Spending}
+use Rattle.hum_sim.specs.Journal.{EntryAs, IsOut}
+use Rattle.hum_sim.specs.Standing.{StateStands}
+use Rattle.hum_sim.specs.Legal.{EntersLegally}
+
+-- an entry is added, and the configuration is the one that it makes
+pub record Entered (lay : Layout) (spent : Spending) (s t : State) (c d : Configuration Tests) : Type 0 where
+  pub entry : Entry
+  pub delivery : after.Entry
+  pub added : t.journal ≡ s.journal ++ entry ∷ []
+  pub same : EntryAs entry delivery
+  pub enters : EntersLegally (tests_language lay.units) s.lanes (spent entry.message) c delivery d
+  -- an event runs out only where the root does
+  pub out : IsOut delivery.ending → (kind : Quota) × (t.out_of ≡ Some kind)
+
+-- what the event of an added entry spent
+abbrev pub added_spent : {A : Type 0} {lay : Layout} {spent : Spending} {s t : State} {c d : Configuration Tests} → Quota → A ⊎ Entered lay spent s t c d → ℕ
+added_spent kind (inl a) = 0
+added_spent {spent = spent} kind (inr e) = spent_of kind (spent e.entry.message)
+
+-- the next state stands for the same configuration, or for the one that the entry makes of it that the turn adds
+pub record Next (lay : Layout) (rom : List Quad) (before spent : Spending) (s t : State) (c : Configuration Tests) : Type 0 where
+  pub configuration : Configuration Tests
+  pub stands : StateStands lay rom spent t configuration
+  pub lanes : t.lanes ≡ s.lanes
+  pub step : ((t.journal ≡ s.journal) × (configuration ≡ c)) ⊎ Entered lay spent s t c configuration
+  -- what the root spends more, an event in flight does, or one that ends had spent
+  pub paid : (kind : Quota) → root_spent kind t + spent_by kind before s.flight ≡ root_spent kind s + spent_by kind spent t.flight + added_spent kind step
