@@ -508,15 +508,16 @@ module _ {grant : Amounts} (s : State) (ok : Sound grant s) (h : FlightSound s) 
 
   flight-each : (pick : ℕ) → EachKind s pick (λ t a. FlightSound t)
   flight-each pick = record {
-    spent = λ kind. h;
-    rests = h;
-    begins = λ m is c. begin-flight m is;
-    delivers = λ m end bytes c. record { stands = h.stands; created_once = h.created_once; created_taken = h.created_taken };
+    spent = λ kind out. h;
+    rests = λ run waits none. h;
+    begins = λ m d. begin-flight m d.first;
+    writes = λ m device bytes d e. record { stands = h.stands; created_once = h.created_once; created_taken = h.created_taken };
+    refuses = λ m device d e. record { stands = h.stands; created_once = h.created_once; created_taken = h.created_taken };
     goes = λ l g at paid is. go_on-flight (pick % length s.flight) l (spend s.sheet l.own.sponsor (lane_row s.store s.sheet l).charge) (item (values l.stack) 1) g at (subst (MakesNamed l.own.sponsor (item (values l.stack) 1) s.store) is (row_at-makes l.own (fetched s.store l.code) s.store s.sheet l.effects (values l.stack)));
     fails = λ l w at paid is. finish-flight (pick % length s.flight) l at no_effects (none-created l) (spend s.sheet l.own.sponsor (lane_row s.store s.sheet l).charge) (Failed w);
     commits = λ l at paid is. finish-flight (pick % length s.flight) l at l.effects (λ w c. c) (spend s.sheet l.own.sponsor (lane_row s.store s.sheet l).charge) Committed;
-    runs_out = λ l kind at. run_out-flight (pick % length s.flight) l kind at;
-    root_runs_out = λ l kind at. out-flight (run_out s (pick % length s.flight) l kind) kind (run_out-flight (pick % length s.flight) l kind at);
+    runs_out = λ l kind at lacks other. run_out-flight (pick % length s.flight) l kind at;
+    root_runs_out = λ l kind at lacks same run. out-flight (run_out s (pick % length s.flight) l kind) kind (run_out-flight (pick % length s.flight) l kind at);
   }
 
   pub turn-flight : (pick : ℕ) → FlightSound (turn s pick).0
