@@ -20,3 +20,6 @@ pub mod Actors
 pub mod FlightActors
 pub mod Commits
 pub mod Order
+pub mod Images
+pub mod Root
+pub mod Alone

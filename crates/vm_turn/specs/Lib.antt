@@ -9,3 +9,5 @@ pub mod Sound
 pub mod Laws
 pub mod Changes
 pub mod Authority
+pub mod Image
+pub mod Alone

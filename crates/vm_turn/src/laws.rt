@@ -2,6 +2,8 @@
 
 ghost use Rattle.vm_turn.specs.Laws.{TurnsEnd, AccountsAddUp, GrantsAreConserved, EventsStandOnce, LeastGoesFirst, OthersWait};
 ghost use Rattle.vm_turn.specs.Changes.{TurnsChange};
+ghost use Rattle.vm_turn.specs.Image.{ImagesStay, CodeStaysInImages};
+ghost use Rattle.vm_turn.specs.Alone.{RootStaysAlone};
 ghost use Rattle.vm_turn.specs.Authority.{EventsHaveBegun, EventsKeepAuthority, CommitsKeepAuthority};
 
 /// A machine with C cycles and E events completes at most `C + 2 (E + 1)` turns, whatever its image, its lanes and its picks: each
@@ -65,4 +67,20 @@ pub fn events_keep_authority()
 /// it created with theirs, and the targets, contents and other sponsors of the messages that it sent.
 pub fn commits_keep_authority()
     ensures { CommitsKeepAuthority }
+{}
+
+/// After every run the cells of the image are as they were.
+pub fn images_stay()
+    ensures { ImagesStay }
+{}
+
+/// After every run no RAM cell spells an operation: what is fetched comes from the image.
+pub fn code_stays_in_images()
+    ensures { CodeStaysInImages }
+{}
+
+/// Where no cell of the image spells an operation on sponsors the root stays the only sponsor: after every run it alone has an account, it
+/// pays for each event in flight, each message that is not finished or that such an event sent is under it, and no signal is prepared.
+pub fn root_stays_alone()
+    ensures { RootStaysAlone }
 {}
