@@ -23,3 +23,4 @@ pub mod Order
 pub mod Images
 pub mod Root
 pub mod Alone
+pub mod Rolls

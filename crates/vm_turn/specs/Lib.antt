@@ -11,3 +11,4 @@ pub mod Changes
 pub mod Authority
 pub mod Image
 pub mod Alone
+pub mod Roll

@@ -4,6 +4,7 @@ ghost use Rattle.vm_turn.specs.Laws.{TurnsEnd, AccountsAddUp, GrantsAreConserved
 ghost use Rattle.vm_turn.specs.Changes.{TurnsChange};
 ghost use Rattle.vm_turn.specs.Image.{ImagesStay, CodeStaysInImages};
 ghost use Rattle.vm_turn.specs.Alone.{RootStaysAlone};
+ghost use Rattle.vm_turn.specs.Roll.{RollsStand};
 ghost use Rattle.vm_turn.specs.Authority.{EventsHaveBegun, EventsKeepAuthority, CommitsKeepAuthority};
 
 /// A machine with C cycles and E events completes at most `C + 2 (E + 1)` turns, whatever its image, its lanes and its picks: each
@@ -83,4 +84,11 @@ pub fn code_stays_in_images()
 /// pays for each event in flight, each message that is not finished or that such an event sent is under it, and no signal is prepared.
 pub fn root_stays_alone()
     ensures { RootStaysAlone }
+{}
+
+/// After every run the roll names each committed actor, and no other; it names none twice, and an actor that an event in flight created is not
+/// on it. An actor of it is idle where no event in flight has it, and else busy with that event, the only one that has it. No event in flight
+/// has a device.
+pub fn rolls_stand()
+    ensures { RollsStand }
 {}

@@ -21,5 +21,5 @@ pub use journal::{Entry, Outcome, Turn};
 pub use laws::{
     accounts_add_up, code_stays_in_images, commits_keep_authority, events_have_begun,
     events_keep_authority, events_stand_once, grants_are_conserved, images_stay, least_goes_first,
-    others_wait, root_stays_alone, turns_change, turns_end,
+    others_wait, rolls_stand, root_stays_alone, turns_change, turns_end,
 };
