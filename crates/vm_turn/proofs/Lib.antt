@@ -24,3 +24,4 @@ pub mod Images
 pub mod Root
 pub mod Alone
 pub mod Rolls
+pub mod Charged

@@ -5,6 +5,7 @@ ghost use Rattle.vm_turn.specs.Changes.{TurnsChange};
 ghost use Rattle.vm_turn.specs.Image.{ImagesStay, CodeStaysInImages};
 ghost use Rattle.vm_turn.specs.Alone.{RootStaysAlone};
 ghost use Rattle.vm_turn.specs.Roll.{RollsStand};
+ghost use Rattle.vm_turn.specs.Spending.{EventsSpendWhatIsPaid};
 ghost use Rattle.vm_turn.specs.Authority.{EventsHaveBegun, EventsKeepAuthority, CommitsKeepAuthority};
 
 /// A machine with C cycles and E events completes at most `C + 2 (E + 1)` turns, whatever its image, its lanes and its picks: each
@@ -91,4 +92,10 @@ pub fn root_stays_alone()
 /// has a device.
 pub fn rolls_stand()
     ensures { RollsStand }
+{}
+
+/// What an event has spent is the sum of the charges of its turns: after every run all sponsors together have spent of each kind what the events
+/// that ended and those in flight have.
+pub fn events_spend_what_is_paid()
+    ensures { EventsSpendWhatIsPaid }
 {}
