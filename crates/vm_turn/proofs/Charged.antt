@@ -1,7 +1,6 @@
 -- What all sponsors have spent is what the events that ended and those in flight have.
-use Rattle.std.proofs.Common.{◌≡◌, ◌⊎◌, inl, inr, ℕ, zero, suc, ◌+◌, ◌<◌, ◌≤◌, ◌%◌, List, [], ◌∷◌, ◌++◌, length, Option, Some, None, refl, ap, sym, subst, ◌∙◌, arith, eq-eqb, ne_eqb, append-nil}
+use Rattle.std.proofs.Common.{◌≡◌, ◌⊎◌, inl, inr, ℕ, suc, ◌+◌, ◌<◌, ◌%◌, List, [], ◌∷◌, ◌++◌, length, Option, Some, None, refl, ap, sym, subst, ◌∙◌, arith, eq-eqb, ne_eqb, append-nil}
 use Rattle.std.specs.Prelude.{slice_get, slice_set, remove}
-use Rattle.std.specs.List.{sum_by}
 use Rattle.std.proofs.lemmas.List.Sums.{sum_by-cons, sum_by_push}
 use Rattle.cap_words.specs.Words.{W, Cap}
 use Rattle.cap_words.specs.Seen.{SponsorSlot}
@@ -13,7 +12,7 @@ use Rattle.instr_table.specs.declared.charge.Quota.TheVariants.{Memory, Events, 
 use Rattle.instr_table.specs.Code.{fetched}
 use Rattle.instr_table.specs.Event.{Sent, Effects, no_effects}
 use Rattle.instr_table.specs.Spent.{Spent, unspent, spent_more, spent_in_kind}
-use Rattle.instr_table.specs.Sheet.{Account, Stopped, stop, prepared, sheet_after}
+use Rattle.instr_table.specs.Sheet.{Account, Stopped, stop, prepared}
 use Rattle.instr_table.specs.Outcome.{Going, Goes}
 use Rattle.instr_table.specs.Lane.{Lane, values, begun, gone}
 use Rattle.instr_table.specs.Reach.{Every}
@@ -28,8 +27,8 @@ use Rattle.vm_turn.specs.State.{Message, State, root}
 use Rattle.vm_turn.specs.Actors.{sent_at}
 use Rattle.vm_turn.specs.Boot.{booted}
 use Rattle.vm_turn.specs.Turn.{entry, without, numbered_from, own_of, begin, delivered, refused, finish, go_on, released, run_out, turn}
-use Rattle.vm_turn.specs.Run.{after, run}
-use Rattle.vm_turn.specs.Sound.{Sound, numbers, Other, Has, spent_of, spent_by_all}
+use Rattle.vm_turn.specs.Run.{after}
+use Rattle.vm_turn.specs.Sound.{Sound, numbers, Other, Has, spent_by_all}
 use Rattle.vm_turn.specs.Spending.{Spending, none_spent, with_spent, with_charge, turn_spending, spending_after, spent_in_flight, spent_by_ended, EventsSpendWhatIsPaid}
 use Rattle.vm_turn.proofs.Sums.{sum-removed, sum-set}
 use Rattle.vm_turn.proofs.Sheets.{due, Moves, spend-moves, stands-moves, effect-moves, payer-there}
@@ -40,7 +39,7 @@ use Rattle.vm_turn.proofs.Bound.{dispatchable-chosen, turn-sound}
 use Rattle.vm_turn.proofs.Places.{has-place, message-given, flight-message}
 use Rattle.vm_turn.proofs.Rights.{has-of, has-left, numbered-above}
 use Rattle.vm_turn.proofs.RunsSound.{boot-sound}
-use Rattle.vm_turn.proofs.TurnCases.{IsPicked, IsPaid, row_of, paid_for, IsDispatched, turn-spends}
+use Rattle.vm_turn.proofs.TurnCases.{IsPaid, row_of, paid_for, IsDispatched, turn-spends}
 
 -- ---- one event is charged
 

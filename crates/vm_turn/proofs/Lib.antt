@@ -25,3 +25,4 @@ pub mod Root
 pub mod Alone
 pub mod Rolls
 pub mod Charged
+pub mod Ended

@@ -362,9 +362,16 @@ module _ {grant : Amounts} (s : State) (ok : Sound grant s) (flies : FlightSound
     flight = λ i l at. r.named l.own.actor (l.own.code, l.own.state, Fix (pos l.number), (lane-of i l at).busy);
     one_event = flight-actors s ok flies;
     no_devices = λ i l at. every-get IsNoDevice s.flight i l r.no_devices at;
-    created = λ i l at w c a. let b = (r.committed w a).3 in let u = (lane-of i l at).unborn w c in absurd cc;
+    created = λ i l at w c a. apart i l at w a c;
+    with_created = λ i l at. both-once s.roll (created_by l) r.once (once i l at) (apart i l at);
   }
     where
+      apart : (i : ℕ) (l : Lane) → slice_get s.flight i ≡ Some l → (w : W) → Among w s.roll → Among w (created_by l) → ⊥
+      apart i l at w a c = let b = (r.committed w a).3 in let u = (lane-of i l at).unborn w c in absurd cc
+
+      once : (i : ℕ) (l : Lane) → slice_get s.flight i ≡ Some l → (w : W) → times w (created_by l) ≤ 1
+      once i l at w = let a = sum-at (λ (k : Lane). times w (created_by k)) s.flight i l at in let o = flies.created_once w in omega (arith, a, o)
+
       each : (w : W) → IsCommitted s.store w → NoEventOf w s.flight ⊎ ((i : ℕ) × (l : Lane) × (slice_get s.flight i ≡ Some l) × (l.own.actor ≡ w)) → IsResting s w ⊎ IsBusy s w
       each w c (inl none) = inl (r.idle w c none, none)
       each w c (inr f) = inr (record { place = f.0; lane = f.1; there = f.2; actor_is = f.3; busy = ap (λ (v : W). slot_seen s.store v) (sym f.3) ∙ (lane-of f.0 f.1 f.2).busy })

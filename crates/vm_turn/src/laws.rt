@@ -2,9 +2,9 @@
 
 ghost use Rattle.vm_turn.specs.Laws.{TurnsEnd, AccountsAddUp, GrantsAreConserved, EventsStandOnce, LeastGoesFirst, OthersWait};
 ghost use Rattle.vm_turn.specs.Changes.{TurnsChange};
-ghost use Rattle.vm_turn.specs.Image.{ImagesStay, CodeStaysInImages};
+ghost use Rattle.vm_turn.specs.Image.{ImagesStay, CodeStaysInImages, FlightsFitLanes};
 ghost use Rattle.vm_turn.specs.Alone.{RootStaysAlone};
-ghost use Rattle.vm_turn.specs.Roll.{RollsStand};
+ghost use Rattle.vm_turn.specs.Roll.{RollsStand, EndedActorsRest};
 ghost use Rattle.vm_turn.specs.Spending.{EventsSpendWhatIsPaid};
 ghost use Rattle.vm_turn.specs.Authority.{EventsHaveBegun, EventsKeepAuthority, CommitsKeepAuthority};
 
@@ -81,6 +81,11 @@ pub fn code_stays_in_images()
     ensures { CodeStaysInImages }
 {}
 
+/// After every run there are as many lanes as at boot, and no more events in flight.
+pub fn flights_fit_lanes()
+    ensures { FlightsFitLanes }
+{}
+
 /// Where no cell of the image spells an operation on sponsors the root stays the only sponsor: after every run it alone has an account, it
 /// pays for each event in flight, each message that is not finished or that such an event sent is under it, and no signal is prepared.
 pub fn root_stays_alone()
@@ -92,6 +97,11 @@ pub fn root_stays_alone()
 /// has a device.
 pub fn rolls_stand()
     ensures { RollsStand }
+{}
+
+/// After a turn of a run that ends an event in flight, its actor is idle, and no event in flight has it.
+pub fn ended_actors_rest()
+    ensures { EndedActorsRest }
 {}
 
 /// What an event has spent is the sum of the charges of its turns: after every run all sponsors together have spent of each kind what the events
