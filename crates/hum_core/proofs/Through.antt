@@ -1,5 +1,5 @@
 -- Where a second language means what a first one does, and a third one what the second does, the third means what the first does.
-use Rattle.std.proofs.Common.{◌≡◌, ◌∙◌, ℕ, ◌≤◌, List, [], ◌∷◌, Option, Some, None, arith}
+use Rattle.std.proofs.Common.{◌∙◌, List, [], ◌∷◌, Option, Some, None, arith}
 use Rattle.hum_meaning.specs.Value.{Parts}
 use Rattle.hum_meaning.specs.Language.{Language}
 use Rattle.hum_meaning.specs.Deliver.{Message, Configuration, Delivery, Committed, Failed, Open, deliver}
