@@ -26,5 +26,9 @@ pub mod BoundNames
 pub mod ScopedBlocks
 pub mod ScopedTrees
 pub mod ScopedFiles
+pub mod Sums
+pub mod SizedNodes
+pub mod SizedParts
+pub mod SizedUnits
 mod Examples
 mod BoundExamples

@@ -11,5 +11,6 @@ pub mod Journals
 pub mod Lowering
 pub mod Lists
 pub mod Units
+pub mod Sizes
 pub mod Bound
 pub mod Laws

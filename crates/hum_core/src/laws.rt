@@ -1,6 +1,7 @@
 // What is so of the numbered languages.
 
 ghost use Rattle.hum_core.specs.Laws.{ResolvedDecisionsStay, TestedDecisionsStay, ResolvedTreesMeanTheSame, LoweredTreesMeanTheSame, FormedTreesStand, ProgramsBeginAlike, ResolvedTreesAreFormed, BoundsAreTheSame, BoundsCountStepsAndSends, ScopedFilesStand};
+ghost use Rattle.hum_core.specs.Sizes.{ProgramsAreSmall};
 
 /// A written tree means what the numbered one does that it stands for: for environments that are alike and every number of steps the outcomes
 /// of evaluation, matching and execution are alike, failures and undecided ones included, with as many steps left. So messages are delivered
@@ -56,4 +57,9 @@ pub fn bounds_are_the_same()
 /// was gathered.
 pub fn bounds_count_steps_and_sends()
     ensures { BoundsCountStepsAndSends }
+{}
+
+/// The numbered program of a file, with its patterns as tests, is at most three times as large as the file's tree, and one more.
+pub fn programs_are_small()
+    ensures { ProgramsAreSmall }
 {}

@@ -12,6 +12,8 @@
 //!
 //! `specs/Bound.antt` says what a delivery may cost. Its bound is the same in each of the languages, and counts steps and messages:
 //! `bounds_are_the_same` and `bounds_count_steps_and_sends`.
+//!
+//! `specs/Sizes.antt` says how large a numbered program is: at most three times as large as its file, and one more (`programs_are_small`).
 #![tactic(auto)]
 
 mod laws;
@@ -21,7 +23,7 @@ mod tested;
 
 pub use laws::{
     bounds_are_the_same, bounds_count_steps_and_sends, formed_trees_stand,
-    lowered_trees_mean_the_same, programs_begin_alike, resolved_decisions_stay,
+    lowered_trees_mean_the_same, programs_are_small, programs_begin_alike, resolved_decisions_stay,
     resolved_trees_are_formed, resolved_trees_mean_the_same, scoped_files_stand,
     tested_decisions_stay,
 };
