@@ -2,13 +2,13 @@
 use Rattle.std.proofs.Common.{arith, [], ◌≡◌, ◌∙◌, ap, ◌+◌, ◌-◌, suc, length, Some, option_map}
 use Rattle.hum_code.specs.Emission.{Emission}
 use Rattle.hum_code.proofs.Law.{events_follow, openings_follow}
-use Rattle.hum_emit.specs.Compiled.{compiled, layout_of, CompiledCodeMeans, ProgramsLink, LabelsArePlaces}
+use Rattle.hum_emit.specs.Compiled.{compiled, layout_of, CompiledCodeMeans, LabelsArePlaces}
 use Rattle.hum_emit.specs.Shapes.{shapes_of}
 use Rattle.hum_emit.proofs.Emitting.{code_stands}
 use Rattle.hum_emit.proofs.Expressions.{index_is}
 use Rattle.hum_emit.proofs.FairStart.{emission_made, emission_long, emission_entries}
 use Rattle.hum_emit.proofs.Images.{linked_holds}
-use Rattle.hum_emit.proofs.Linking.{few_link, links}
+use Rattle.hum_emit.proofs.Linking.{few_link}
 use Rattle.cap_words.specs.Words.{Rom}
 use Rattle.hum_emit.proofs.Modules.{number_of_boot, number_of_apply, number_of_unit}
 
@@ -31,9 +31,6 @@ compiled_code_means units m boot is linked =
             });
           },
     )
-
-pub programs_link : ProgramsLink
-programs_link units few = links (compiled units).0 (compiled units).1 few
 
 pub labels_are_places : LabelsArePlaces
 labels_are_places units fits few =

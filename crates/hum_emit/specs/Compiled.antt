@@ -1,10 +1,10 @@
 -- What a program's module does: the code of its image does what the program means.
-use Rattle.std.specs.Prelude.{◌≡◌, ℕ, ◌+◌, ◌<◌, ◌≤◌, List, [], ◌∷◌, length, Option, Some, None, option_map, slice_get}
+use Rattle.std.specs.Prelude.{◌≡◌, ℕ, ◌+◌, ◌<◌, ◌≤◌, List, [], ◌∷◌, length, Option, Some, option_map, slice_get}
 use Rattle.cap_words.specs.Words.{W, Rom}
 use Rattle.instr_table.specs.Types.{AnActor, look_up}
 use Rattle.uasm_read.specs.Modules.{ModuleParts}
 use Rattle.uasm_read.specs.Texts.{Name}
-use Rattle.uasm_read.specs.Links.{Linked, link_fault, item_limit, first_number, label_number}
+use Rattle.uasm_read.specs.Links.{Linked, item_limit, first_number, label_number}
 use Rattle.hum_core.specs.declared.tested.TestUnit.{TestUnit}
 use Rattle.hum_core.specs.Numbered.{Opening}
 use Rattle.hum_core.specs.Openings.{outermost}
@@ -55,11 +55,6 @@ CompiledCodeMeans =
     → (boot ≡ (layout_of units).boot)
     × ((self : ℕ) (self_is : slice_get m.roll self ≡ Some m.own.actor) (actor_is : look_up m.base m.own.actor ≡ Some AnActor)
     → MeansIts units m self self_is actor_is)
-
--- the module of a program links, but where it has more instructions and data than an image has room for
-abbrev pub ProgramsLink : Type 0
-ProgramsLink =
-    (units : List TestUnit) → length (compiled units).0.code + length (compiled units).0.cells ≤ item_limit → link_fault (compiled_module units ∷ []) ≡ None
 
 -- the word that a label of a module stands for in the image that it links to alone
 abbrev pub label_word : ModuleParts → Name → Option W

@@ -23,8 +23,9 @@ mod whole;
 
 pub use instruction::{Datum, Field, Instruction};
 pub use laws::{
-    compiled_code_means_the_program, emissions_are_made, emissions_have_few_operations,
-    emitted_code_stands, labels_are_places, linked_holds, programs_link, shapes_of_programs_fit,
+    compiled_code_means_the_program, emissions_are_made, emissions_are_small,
+    emissions_have_few_operations, emitted_code_stands, labels_are_places, linked_holds,
+    modules_are_small, programs_link, shapes_of_programs_fit,
 };
 pub use module::module_of;
 pub use whole::emit;
