@@ -39,3 +39,6 @@ pub mod Tops
 pub mod Findings
 pub mod Parting
 pub mod UnitTurns
+pub mod Size
+pub mod SizeTrees
+pub mod SizeUnits
