@@ -94,13 +94,13 @@ module _ {L K : Parts} (r : Reading L K) where
 
   ends_forth : (x : Delivery L) (y : Delivery K) → IsClosed x → DeliveryAs r x y → EndsAs (by_reading r) x y
   ends_forth (Committed c) (Committed d) o h = h
-  ends_forth (Failed code n c) (Failed code' n' d) o h = (h.0, h.2)
+  ends_forth (Failed code n c) (Failed code' n' d) o h = h
   ends_forth Open y o h = absurd o
   ends_forth _ _ o h = absurd h
 
   ends_back : (x : Delivery L) (y : Delivery K) → IsClosed y → DeliveryAs r x y → EndsAs (by_reading r) x y
   ends_back (Committed c) (Committed d) o h = h
-  ends_back (Failed code n c) (Failed code' n' d) o h = (h.0, h.2)
+  ends_back (Failed code n c) (Failed code' n' d) o h = h
   ends_back x Open o h = absurd o
   ends_back _ _ o h = absurd h
 
