@@ -8,30 +8,6 @@ use Rattle.hum_emit.specs.declared.shape.Entry.{Entry}
 use Rattle.hum_emit.specs.Templates.{member_unit}
 use Rattle.hum_emit.specs.Shaping.{kind_of, unit_in}
 
--- ---- the oldest of them
-
-drop_front : {X : Type 0} (us vs : List X) → drop (length (us ++ vs) - length vs) (us ++ vs) ≡ vs
-drop_front us vs =
-    let n : length (us ++ vs) - length vs ≡ length us = omega (arith, length-append us vs) in
-    ap (λ k. drop k (us ++ vs)) n ∙ drop-append-le (length us) us vs (omega arith) ∙ ap (λ xs. xs ++ vs) (drop_all (length us) us (omega arith))
-
-turned : {X : Type 0} (xs : List X) (k : ℕ) → reverse xs ≡ reverse (drop k xs) ++ reverse (take k xs)
-turned xs k = ap reverse (sym (take-append-drop k xs)) ∙ reverse-append (take k xs) (drop k xs)
-
-length_oldest : {X : Type 0} (xs : List X) (k : ℕ) → k ≤ length xs → length (reverse (take k xs)) ≡ k
-length_oldest xs k h = length-reverse (take k xs) ∙ length-take-le k xs h
-
-oldest : {X : Type 0} (xs : List X) (k : ℕ) → k ≤ length (reverse xs) → drop (length (reverse xs) - k) (reverse xs) ≡ reverse (take k xs)
-oldest xs k h =
-    let n = length_oldest xs k (omega (arith, h, length-reverse xs)) in
-    ap (λ ys. drop (length ys - k) ys) (turned xs k)
-    ∙ ap (λ j. drop (length (reverse (drop k xs) ++ reverse (take k xs)) - j) (reverse (drop k xs) ++ reverse (take k xs))) (sym n)
-    ∙ drop_front (reverse (drop k xs)) (reverse (take k xs))
-
-pub truncated : {X Y : Type 0} (f : X → Y) (xs : List X) (k : ℕ) → k ≤ length (reverse (map f xs))
-    → reverse (map f (take k xs)) ≡ drop (length (reverse (map f xs)) - k) (reverse (map f xs))
-truncated f xs k h = ap reverse (sym (take-map f k xs)) ∙ sym (oldest (map f xs) k h)
-
 -- ---- one of them
 
 -- the unit of a member of an entry, if there is one
