@@ -1,7 +1,7 @@
 -- The entries in sight of an expression, the newest first.
-use Rattle.std.proofs.Common.{◌≡◌, refl, sym, ap, ◌∙◌, arith, ℕ, zero, suc, ◌+◌, ◌-◌, ◌<◌, ◌≤◌, List, [], ◌∷◌, ◌++◌, map, length, reverse, take, drop, get_or, length-append, Option, Some, None}
+use Rattle.std.proofs.Common.{◌≡◌, refl, sym, ap, ◌∙◌, arith, ℕ, zero, suc, ◌+◌, ◌-◌, ◌<◌, ◌≤◌, List, [], ◌∷◌, map, length, reverse, get_or, Option, Some, None}
 use Rattle.std.specs.Prelude.{slice_get}
-use Rattle.std.proofs.lemmas.List.{length-take-le, take-map, reverse-append, length-reverse, take-append-drop, drop-append-le, drop_all, get_or-reverse, length-map}
+use Rattle.std.proofs.lemmas.List.{length-reverse, get_or-reverse, length-map}
 use Rattle.std.proofs.lemmas.Option.{slice_get-get_or}
 use Rattle.hum_code.specs.Layout.{Kind, Single, Several, Shape, with_singles}
 use Rattle.hum_emit.specs.declared.shape.Entry.{Entry}

@@ -9,7 +9,7 @@ use Rattle.hum_core.specs.declared.tested.TestUnit.{TestUnit}
 use Rattle.hum_meaning.specs.Named.{written}
 use Rattle.hum_meaning.specs.Look.{outermost}
 use Rattle.hum_meaning.specs.Scope as judged
-use Rattle.hum_meaning.specs.Scope.{Scoped, outermost_scope, most_bindings}
+use Rattle.hum_meaning.specs.Scope.{Scoped, outermost_scope}
 use Rattle.hum_core.specs.Alike.{scope_of, Each}
 use Rattle.hum_core.specs.Units.{resolved}
 use Rattle.hum_core.specs.Lists.{tested}

@@ -154,13 +154,7 @@ fn add_fixed_label(
     Ok(())
 }
 
-fn labels_of(
-    alloc: Global,
-    size: usize,
-    i: u32,
-    k: u32,
-    entries: &[u32],
-) -> Result<Names, NoMemory>
+fn labels_of(alloc: Global, size: usize, i: u32, k: u32, entries: &[u32]) -> Result<Names, NoMemory>
     ensures { IfOk result (λ names. names ≡ spec.labels_of size i k entries.now) }
 {
     let mut labels = Vec::new(alloc);
