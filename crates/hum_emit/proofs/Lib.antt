@@ -16,7 +16,6 @@ pub mod ShapeTests
 pub mod Expressions
 pub mod MadeUnits
 pub mod Emitting
-pub mod Sights
 pub mod ShapeBlocks
 pub mod ShapePatterns
 pub mod ShapeTrees
