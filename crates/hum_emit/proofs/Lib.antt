@@ -39,5 +39,6 @@ pub mod Findings
 pub mod Parting
 pub mod UnitTurns
 pub mod Size
+pub mod SizeStart
 pub mod SizeTrees
 pub mod SizeUnits
