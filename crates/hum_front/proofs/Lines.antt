@@ -28,13 +28,15 @@ place_other bytes i within plain =
     (ap (λ k. not (is_line_feed (get_or bytes k 0))) at ∙ ap not plain) in
     let same : suffix_len (λ b. not (is_line_feed b)) (take (i + 1 - 1) bytes) ≡ suffix_len (λ b. not (is_line_feed b)) (take i bytes) =
     ap (λ k. suffix_len (λ b. not (is_line_feed b)) (take k bytes)) at in
-    let more : suffix_len (λ b. not (is_line_feed b)) (take (i + 1) bytes) ≡ suffix_len (λ b. not (is_line_feed b)) (take i bytes) + 1 = omega (arith, columns, same) in
+    let more : suffix_len (λ b. not (is_line_feed b)) (take (i + 1) bytes) ≡ suffix_len (λ b. not (is_line_feed b)) (take i bytes) + 1 =
+    omega (arith, columns, same) in
     λ j. (lines j + 1, more j + 1)
 
 pub within_text : (bytes : Bytes) (at : ℕ) → at < length bytes → line_column bytes at ≡ place_behind (take at bytes)
 within_text [] at h = absurd (omega (arith, h))
 within_text (b ∷ bs) at h = cond-true _ _ _ (lt-ltb at (length (b ∷ bs)) h)
 
-pub at_end : (bytes : Bytes) (at : ℕ) → 0 < length bytes → length bytes ≤ at → line_column bytes at ≡ ((last_place bytes).0, (last_place bytes).1 + 1)
+pub at_end : (bytes : Bytes) (at : ℕ) → 0 < length bytes → length bytes ≤ at
+    → line_column bytes at ≡ ((last_place bytes).0, (last_place bytes).1 + 1)
 at_end [] at some h = absurd (omega (arith, some))
 at_end (b ∷ bs) at some h = cond-false _ _ _ (le-ltb at (length (b ∷ bs)) h)

@@ -34,7 +34,8 @@ by_undefined : (us name : Bytes) (d : Bool) → (if d then k.Undefined else k.Na
 by_undefined us name true h = cc h
 by_undefined us name false h = ap run_of h
 
-by_wildcard : (us name : Bytes) (d : Bool) → (if d then k.Wildcard else (if is_undefined us then k.Undefined else k.Name us)) ≡ k.Name name → us ≡ name
+by_wildcard : (us name : Bytes) (d : Bool)
+    → (if d then k.Wildcard else (if is_undefined us then k.Undefined else k.Name us)) ≡ k.Name name → us ≡ name
 by_wildcard us name true h = cc h
 by_wildcard us name false h = by_undefined us name (is_undefined us) h
 
@@ -50,7 +51,8 @@ run_name : (us name : Bytes) → kind_of_run us ≡ k.Name name → us ≡ name
 run_name us name h = by_number us name (is_number us) h
 
 -- a mark is no name
-no_name_at : (kind : TokenKind) (d : Bool) (x : TokenKind) (y : Option TokenKind) → is_name_kind x ≡ false → (y ≡ Some kind → is_name_kind kind ≡ false)
+no_name_at : (kind : TokenKind) (d : Bool) (x : TokenKind) (y : Option TokenKind) → is_name_kind x ≡ false → (y ≡ Some kind
+    → is_name_kind kind ≡ false)
     → (if d then Some x else y) ≡ Some kind → is_name_kind kind ≡ false
 no_name_at kind true x y plain more is = let same : x ≡ kind = cc is in subst (λ z. is_name_kind z ≡ false) same plain
 no_name_at kind false x y plain more is = more is
@@ -65,7 +67,8 @@ mark_no_name called b kind =
     (no_name_at kind (b == 93) k.SquareRight _ refl (no_name_at kind (b == 44) k.Comma _ refl (no_name_at kind (b == 46) k.Dot _ refl (no_name_at kind (b == 61) k.Equals _ refl
     (no_name_at kind (b == 58) k.Colon _ refl (no_name_at kind (b == 36) k.Dollar _ refl (no_name_at kind (b == 92) k.Backslash None refl (λ e. absurd cc))))))))))
 
-token_name : {called : Bool} {us rest : Bytes} {kind : TokenKind} → Stands called us rest kind → (name : Bytes) → kind ≡ k.Name name → (us ≡ name) × IsWholeRun us rest
+token_name : {called : Bool} {us rest : Bytes} {kind : TokenKind} → Stands called us rest kind → (name : Bytes) → kind ≡ k.Name name
+    → (us ≡ name) × IsWholeRun us rest
 token_name (run {us} whole short small free) name h = (run_name us name h, whole)
 token_name (symbol whole short) name h = cc h
 token_name (text is) name h = cc h
@@ -87,7 +90,8 @@ kept_first p u ts zero t more passes h = (0, h, subst (λ z. p z ≡ true) (same
 kept_first p u ts (suc n) t more passes h = let m = more n t h in (suc m.0, m.1, m.2)
 
 -- what a test keeps of a list is in the list, and passes
-kept : (p : Placed → Bool) (ts : List Placed) (n : ℕ) (t : Placed) → slice_get (filter p ts) n ≡ Some t → (m : ℕ) × (slice_get ts m ≡ Some t) × (p t ≡ true)
+kept : (p : Placed → Bool) (ts : List Placed) (n : ℕ) (t : Placed) → slice_get (filter p ts) n ≡ Some t
+    → (m : ℕ) × (slice_get ts m ≡ Some t) × (p t ≡ true)
 kept p [] n t h = cc h
 kept p (u ∷ ts) n t h = elim (cases_Bool (p u)) [
   | inl passes ↦
@@ -127,7 +131,8 @@ names_stand bytes ts lexes n p h =
 -- ---- the name that is refused
 
 -- the name of a number among the tokens is that of the tree
-pub refused_name : (bytes : Bytes) (ts : List Placed) (file : List Stmt) (n p : ℕ) → Lexes bytes ts → IsStmts deepest (kinds_of ts) file → name_place ts n ≡ Some p
+pub refused_name : (bytes : Bytes) (ts : List Placed) (file : List Stmt) (n p : ℕ) → Lexes bytes ts
+    → IsStmts deepest (kinds_of ts) file → name_place ts n ≡ Some p
     → (name : Bytes) × (slice_get (names_of file) n ≡ Some name) × NameAt bytes p name
 refused_name bytes ts file n p lexes spells place =
     let stands = names_stand bytes ts lexes n p place in
@@ -147,11 +152,14 @@ name_within bytes at name is =
     omega (arith, long, place, length-append is.front (name ++ is.rest))
 
 -- the run from there on is the name
-pub name_cut : (bytes : Bytes) (at n : ℕ) (name : Bytes) → n ≡ prefix_len (is_in class.Run) (take (length bytes - at) (drop at bytes)) → NameAt bytes at name
+pub name_cut : (bytes : Bytes) (at n : ℕ) (name : Bytes) → n ≡ prefix_len (is_in class.Run) (take (length bytes - at) (drop at bytes))
+    → NameAt bytes at name
     → take n (take (length bytes - at) (drop at bytes)) ≡ name
 name_cut bytes at n name long is =
-    let all : take (length bytes - at) (drop at bytes) ≡ drop at bytes = take_all (length bytes - at) (drop at bytes) (omega (arith, length-drop at bytes)) in
+    let all : take (length bytes - at) (drop at bytes) ≡ drop at bytes =
+    take_all (length bytes - at) (drop at bytes) (omega (arith, length-drop at bytes)) in
     let behind : drop at bytes ≡ name ++ is.rest =
     ap (λ k. drop k bytes) is.place ∙ ap (drop (length is.front)) is.split ∙ drop-append_seam is.front (name ++ is.rest) in
-    let count : n ≡ length name = long ∙ ap (prefix_len is_run_byte) (all ∙ behind) ∙ prefix_len-whole is_run_byte name is.rest is.whole.each is.whole.maximal in
+    let count : n ≡ length name =
+    long ∙ ap (prefix_len is_run_byte) (all ∙ behind) ∙ prefix_len-whole is_run_byte name is.rest is.whole.each is.whole.maximal in
     ap (take n) (all ∙ behind) ∙ ap (λ k. take k (name ++ is.rest)) count ∙ take-append_seam name is.rest

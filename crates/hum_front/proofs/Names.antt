@@ -15,6 +15,7 @@ use Rattle.hum_meaning.specs.Scope.{Verdicts, verdicts, first_from, first_refuse
 use Rattle.hum_meaning.proofs.JudgedNames.{each-name-is-judged}
 use Rattle.hum_syntax.proofs.NamedTrees.{spelled_names}
 use Rattle.hum_scope.specs.Told.{Told}
+use Rattle.hum_scope.proofs.Counts.{scoped-trees}
 use Rattle.hum_scope.specs.declared.refusal.ScopeError.{ScopeError}
 use Rattle.hum_scope.specs.declared.refusal.ScopeError.TheVariants.{NoMemory, Refused}
 use Rattle.hum_scope.specs.declared.refusal.ScopeRefused.{ScopeRefused}
@@ -74,7 +75,8 @@ there (x ∷ xs) (suc n) h = there xs n (omega (arith, h))
 -- so the name of each number that is below theirs has a place
 name_there : (ts : List Placed) (n : ℕ) → n < length (names_of_kinds (kinds_of ts)) → (p : ℕ) × (name_place ts n ≡ Some p)
 name_there ts n h =
-    let same : length (names_of_kinds (kinds_of ts)) ≡ length (name_tokens ts) = ap length (names_filtered ts) ∙ length-map (name_tokens ts) name_of in
+    let same : length (names_of_kinds (kinds_of ts)) ≡ length (name_tokens ts) =
+    ap length (names_filtered ts) ∙ length-map (name_tokens ts) name_of in
     let t = there (name_tokens ts) n (omega (arith, h, same)) in
     (t.0.from, ap (option_map (λ t. t.from)) t.1)
 
@@ -104,25 +106,14 @@ pub refused_named : (ts : List Placed) (file : List Stmt) (levels n : ℕ) (caus
     → first_refused file ≡ Some (n, cause) → (p : ℕ) × (name_place ts n ≡ Some p)
 refused_named ts file levels n cause spells first =
     let within = first_within 0 (verdicts file) n cause first in
-    let same : length (verdicts file) ≡ length (names_of_kinds (kinds_of ts)) = each-name-is-judged file ∙ ap length (spelled_names levels (kinds_of ts) file spells) in
+    let same : length (verdicts file) ≡ length (names_of_kinds (kinds_of ts)) =
+    each-name-is-judged file ∙ ap length (spelled_names levels (kinds_of ts) file spells) in
     name_there ts n (omega (arith, within, same))
-
-none_first : (n : ℕ) (vs : Verdicts) → list_all is_none vs ≡ true → first_from n vs ≡ None
-none_first n [] h = refl
-none_first n (None ∷ vs) h = none_first (suc n) vs h
-none_first n (Some cause ∷ vs) h = cc h
-
-all_none : (n : ℕ) (vs : Verdicts) → first_from n vs ≡ None → list_all is_none vs ≡ true
-all_none n [] h = refl
-all_none n (None ∷ vs) h = all_none (suc n) vs h
-all_none n (Some cause ∷ vs) h = cc h
-
-pub scoped-trees : (file : List Stmt) → Scoped file ↔ (first_refused file ≡ None)
-scoped-trees file = (none_first 0 (verdicts file), all_none 0 (verdicts file))
 
 -- ---- what is told of a tree
 
-pub told_refused : (A : Type 0) (first : Option (ℕ × ScopeCause)) (why : ScopeRefused) → Told {A = A} first (Err (Refused why)) → first ≡ Some (why.at, why.cause)
+pub told_refused : (A : Type 0) (first : Option (ℕ × ScopeCause)) (why : ScopeRefused) → Told {A = A} first (Err (Refused why))
+    → first ≡ Some (why.at, why.cause)
 told_refused A None why h = absurd h
 told_refused A (Some first) why h = ap Some h
 
@@ -133,7 +124,8 @@ told_none A (Some first) a h = absurd h
 pub told_scoped : (A : Type 0) (file : List Stmt) (a : A) → Told (first_refused file) (Ok a) → Scoped file
 told_scoped A file a h = (scoped-trees file).1 (told_none A (first_refused file) a h)
 
-pub refused_first : (A : Type 0) (first : Option (ℕ × ScopeCause)) (r : Result A ScopeError) (e : ScopeError) (why : ScopeRefused) → Told first r → r ≡ Err e → e ≡ Refused why
+pub refused_first : (A : Type 0) (first : Option (ℕ × ScopeCause)) (r : Result A ScopeError) (e : ScopeError) (why : ScopeRefused)
+    → Told first r → r ≡ Err e → e ≡ Refused why
     → first ≡ Some (why.at, why.cause)
 refused_first A first r e why told is err = told_refused A first why (subst (λ r. Told {A = A} first r) (is ∙ ap Err err) told)
 

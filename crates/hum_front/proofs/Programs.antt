@@ -19,7 +19,8 @@ use Rattle.hum_parse.proofs.Place.{one_place}
 use Rattle.hum_parse.proofs.Decided as parsed
 use Rattle.hum_meaning.specs.Scope.{Scoped, first_refused}
 use Rattle.hum_scope.specs.declared.refusal.ScopeRefused.{ScopeRefused}
-use Rattle.hum_front.proofs.Names.{scoped-trees, number_in, refused_named}
+use Rattle.hum_scope.proofs.Counts.{scoped-trees}
+use Rattle.hum_front.proofs.Names.{number_in, refused_named}
 use Rattle.hum_front.proofs.NamePlaces.{refused_name}
 use Rattle.hum_meaning.specs.declared.cause.ScopeCause.{ScopeCause}
 use Rattle.hum_front.specs.declared.error.StartError.{StartError}
@@ -31,7 +32,8 @@ use Rattle.hum_front.specs.Laws.{OneTree, OneRefusal, NeverBoth, OneOfBoth}
 same_tokens : (bytes : Bytes) (us vs : List Placed) → IsTokens bytes us → IsTokens bytes vs → us ≡ vs
 same_tokens bytes us vs a b = one_list bytes us vs a.lexes b.lexes
 
-same_tree : (bytes : Bytes) (us vs : List Placed) (a b : Tree) → IsTokens bytes us → IsTokens bytes vs → Spells (kinds_of us) a → Spells (kinds_of vs) b → a ≡ b
+same_tree : (bytes : Bytes) (us vs : List Placed) (a b : Tree) → IsTokens bytes us → IsTokens bytes vs → Spells (kinds_of us) a
+    → Spells (kinds_of vs) b → a ≡ b
 same_tree bytes us vs a b x y m n = one_tree (kinds_of vs) a b (subst (λ ts. Spells (kinds_of ts) a) (same_tokens bytes us vs x y) m) n
 
 pub same_reading : OneTree
@@ -45,14 +47,17 @@ no_both n a b = omega (arith, a, b)
 unlexed_no_tokens : (bytes : Bytes) (why : LexRefused) (ts : List Placed) → IsLexRefusal bytes why → IsTokens bytes ts → ⊥
 unlexed_no_tokens bytes why ts u are = u.refused.no_tokens ts are
 
-unparsed_no_tree : (bytes : Bytes) (at : ℕ) (ts : List Placed) (tree : Tree) → IsParseRefusal bytes at → IsTokens bytes ts → Spells (kinds_of ts) tree → ⊥
+unparsed_no_tree : (bytes : Bytes) (at : ℕ) (ts : List Placed) (tree : Tree) → IsParseRefusal bytes at → IsTokens bytes ts
+    → Spells (kinds_of ts) tree → ⊥
 unparsed_no_tree bytes at ts tree u are spells =
     u.refused.no_tree tree.statements (subst (λ us. Spells (kinds_of us) tree) (same_tokens bytes ts u.tokens are u.are) spells)
 
-unscoped_not_scoped : (bytes : Bytes) (why : ScopeRefused) (name : Bytes) (tree : Tree) → IsScopeRefusal bytes why name → Accepted bytes tree → ⊥
+unscoped_not_scoped : (bytes : Bytes) (why : ScopeRefused) (name : Bytes) (tree : Tree) → IsScopeRefusal bytes why name
+    → Accepted bytes tree → ⊥
 unscoped_not_scoped bytes why name tree u a =
     let same = same_tree bytes u.tokens a.tokens u.tree tree u.are a.are u.spells a.spells in
-    let none : first_refused u.tree.statements ≡ None = (scoped-trees u.tree.statements).0 (subst (λ t. Scoped t.statements) (sym same) a.scoped) in
+    let none : first_refused u.tree.statements ≡ None =
+    (scoped-trees u.tree.statements).0 (subst (λ t. Scoped t.statements) (sym same) a.scoped) in
     cc (none, u.refused)
 
 pub never_both : NeverBoth
@@ -93,7 +98,8 @@ one_unscoped : (bytes : Bytes) (a b : ScopeRefused) (m n : Bytes) → IsScopeRef
 one_unscoped bytes a b m n x y =
     let tokens = same_tokens bytes x.tokens y.tokens x.are y.are in
     let tree = same_tree bytes x.tokens y.tokens x.tree y.tree x.are y.are x.spells y.spells in
-    let first : Some (x.number, a.cause) ≡ Some (y.number, b.cause) = sym x.refused ∙ ap (λ (t : Tree). first_refused t.statements) tree ∙ y.refused in
+    let first : Some (x.number, a.cause) ≡ Some (y.number, b.cause) =
+    sym x.refused ∙ ap (λ (t : Tree). first_refused t.statements) tree ∙ y.refused in
     let number : x.number ≡ y.number = ap number_in first in
     let cause : a.cause ≡ b.cause = ap (cause_in a.cause) first in
     let place : Some a.at ≡ Some b.at =
