@@ -10,7 +10,6 @@ use Rattle.hum_core.specs.declared.tested.TestBranch.{TestBranch, fold-TestBranc
 use Rattle.hum_code.specs.Layout.{Shape, with_singles}
 use Rattle.hum_emit.specs.declared.emitter.Emitter.{Emitter}
 use Rattle.hum_emit.specs.declared.instruction.Datum.{Datum}
-use Rattle.hum_emit.specs.declared.instruction.Instruction.{Instruction}
 use Rattle.hum_core.specs.declared.tested.TestUnit.{TestUnit}
 use Rattle.hum_emit.specs.declared.instruction.Field.TheVariants.{Number, Constant, Data}
 use Rattle.hum_emit.specs.Emitted.{Emitted, Piece, nothing, ◌▷◌, dup, drop, roll, jump, nil, pair_type, with_symbol}
@@ -24,10 +23,6 @@ number_in numbers name = get_by (λ key. bytes_eq name key.now) numbers
 -- what is emitted so far
 unfoldable pub emitted : Emitter → Emitted
 emitted e = record { code = e.code.items; cells = e.cells.items; symbols = number_in e.symbols }
-
--- that code, and no data
-abbrev pub only_code : List Instruction → Emitted
-only_code code = record { code = code; cells = []; symbols = λ name. None }
 
 -- with further data
 abbrev pub with_cells : (more : List Datum) → Emitted → Emitted
