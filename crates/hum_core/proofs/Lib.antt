@@ -27,5 +27,12 @@ pub mod BoundNames
 pub mod ScopedBlocks
 pub mod ScopedTrees
 pub mod ScopedFiles
+pub mod Likenesses
+pub mod Through
+pub mod Programs
+pub mod Sums
+pub mod SizedNodes
+pub mod SizedParts
+pub mod SizedUnits
 mod Examples
 mod BoundExamples

@@ -38,3 +38,7 @@ pub mod Tops
 pub mod Findings
 pub mod Parting
 pub mod UnitTurns
+pub mod Size
+pub mod SizeStart
+pub mod SizeTrees
+pub mod SizeUnits
