@@ -5,6 +5,7 @@ pub mod Simulates
 pub mod Wholly
 pub mod Looked
 pub mod Names
+pub mod NewestItems
 pub mod Patterns
 pub mod Agreed
 pub mod Splits
@@ -26,5 +27,12 @@ pub mod BoundNames
 pub mod ScopedBlocks
 pub mod ScopedTrees
 pub mod ScopedFiles
+pub mod Likenesses
+pub mod Through
+pub mod Programs
+pub mod Sums
+pub mod SizedNodes
+pub mod SizedParts
+pub mod SizedUnits
 mod Examples
 mod BoundExamples

@@ -9,7 +9,7 @@ use Rattle.hum_core.specs.declared.tested.TestExpr.{TestExpr, out-TestExpr, fold
 use Rattle.hum_core.specs.declared.tested.Test.{Test, out-Test, fold_out-Test}
 use Rattle.hum_core.specs.declared.tested.TestArm.{TestArm, out-TestArm, fold_out-TestArm}
 use Rattle.hum_core.specs.declared.tested.TestBranch.{TestBranch, out-TestBranch, fold_out-TestBranch}
-use Rattle.hum_core.specs.declared.tested.Test.TheOpen.{Test-F, TestExpr-F, TestArm-F, TestBranch-F}
+use Rattle.hum_core.specs.declared.tested.Test.TheOpen.{TestExpr-F}
 use Rattle.hum_core.specs.declared.tested.Test.TheOpen as layer
 use Rattle.hum_core.specs.Numbered.{Of}
 use Rattle.hum_core.specs.Lowering.{TestNode, left_behind}
@@ -26,7 +26,8 @@ use Rattle.hum_emit.specs.Templates.{OfExpr, OfTest, OfArm, OfBranch, function, 
 use Rattle.hum_emit.specs.Shapes.{Fits, BlockIn, MemberIn, SlotFits, TestFits, EachTestFits, EachFits, ArmsFit, BranchesFit, NodeFits, fits_to}
 use Rattle.hum_emit.proofs.Makes.{begins_later, Image, layout, Makes, makes_one, makes_both, makes_as, makes_miss, makes_field, makes_choose, makes_calls, makes_nothing, pushes, dups, drops, picks, rolls, pairs_up, parts, nths, quads}
 use Rattle.hum_emit.proofs.DataCells.{text_begins, text_known, constant_begins, constant_known}
-use Rattle.hum_emit.proofs.Growths.{arm_code, branch_code, coded_expr, coded_test, grows_expr, grows_tests, three_grow}
+use Rattle.hum_emit.specs.Emitting.{arm_code, branch_code}
+use Rattle.hum_emit.proofs.Growths.{coded_expr, coded_test, grows_expr, grows_tests, three_grow}
 
 -- ---- operands
 

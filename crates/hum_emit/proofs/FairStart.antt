@@ -5,6 +5,7 @@ use Rattle.std.specs.List.{AllByRecursion, list_all}
 use Rattle.std.proofs.lemmas.Bool.{ltb-true, lt-ltb}
 use Rattle.std.proofs.lemmas.List.Elements.{All-from_recursion}
 use Rattle.cap_words.specs.Fixnums.{in_range}
+use Rattle.instr_table.specs.Reach.{Every}
 use Rattle.hum_core.specs.declared.tested.TestUnit.{TestUnit}
 use Rattle.hum_code.specs.Layout.{Shape}
 use Rattle.hum_emit.specs.declared.instruction.Field.{Field}
@@ -14,11 +15,12 @@ use Rattle.hum_emit.specs.Emitted.{Emitted}
 use Rattle.hum_emit.specs.Runtime.{ended, aborted, failed, went_back, called, executed, applied, compared, same_called, built_in, fixed_code, runtime, apply_place, routine_places}
 use Rattle.hum_emit.specs.Templates.{units_code, boot_code}
 use Rattle.hum_emit.specs.Program.{routine_cells, start, emission}
-use Rattle.hum_emit.specs.Made.{FieldMade, NextMade, InstructionMade, DatumMade, Made, Used, is_used}
+use Rattle.hum_emit.specs.Made.{FieldMade, NextMade, InstructionMade, DatumMade, Made}
 use Rattle.hum_emit.specs.Shapes.{ShapesFit}
 use Rattle.hum_emit.proofs.FixedPlaces.{cells_many, end_inside, apply_inside, routines_inside, routines_many}
-use Rattle.hum_emit.proofs.Fair.{Proper, Fair, After}
+use Rattle.hum_emit.proofs.Fair.{Proper, NoCode, Fair, After}
 use Rattle.hum_emit.proofs.FairData.{parts_true}
+use Rattle.hum_emit.proofs.PlainCode.{is_used}
 use Rattle.hum_emit.proofs.FairUnits.{UnitsFair, units_fair, entries_count, boot_fair, first_entry, descends}
 
 -- ---- the fixed code, by tests that compute
@@ -72,6 +74,10 @@ module _ (size : ℕ) where
           routines_made (suc number) more (omega (arith, few)) parts.1,
         )
 
+routines_no_code : (number : ℕ) (places : List ℕ) → Every NoCode (routine_cells number places)
+routines_no_code number [] = tt
+routines_no_code number (place ∷ more) = (refl, routines_no_code (suc number) more)
+
 runtime_tests : list_all (test (length runtime)) runtime ≡ true
 unfolding ended aborted failed went_back called executed applied compared same_called built_in fixed_code
 runtime_tests = refl
@@ -80,6 +86,10 @@ start_fair : (units : ℕ) → Fair units start
 start_fair units =
     let many = routines_many in
     record {
+routines_no_code : (number : ℕ) (places : List ℕ) → Every NoCode (routine_cells number places)
+routines_no_code number [] = tt
+routines_no_code number (place ∷ more) = (refl, routines_no_code (suc number) more)
+
       instructions = all_tested (length runtime) units (length (routine_cells 0 routine_places)) runtime runtime_tests;
       cells = routines_made (length runtime) units (length (routine_cells 0 routine_places)) 0 routine_places (omega (arith, many)) routines_inside;
       symbols = λ name n h. absurd (let no : None ≡ Some n = h in cc);
@@ -91,11 +101,6 @@ start_fair units =
 only_made : (units size count : ℕ) (xs : List Instruction) → AllByRecursion (Proper units size count) xs → AllByRecursion (InstructionMade size units count) xs
 only_made units size count [] h = tt
 only_made units size count (x ∷ xs) h = (h.0.made, only_made units size count xs h.1)
-
-only_used : (units size count : ℕ) (xs : List Instruction) → AllByRecursion (Proper units size count) xs
-    → AllByRecursion (λ (x : Instruction). is_used x.operation x.field ≡ true) xs
-only_used units size count [] h = tt
-only_used units size count (x ∷ xs) h = (h.0.used, only_used units size count xs h.1)
 
 module _ (units : List TestUnit) (shapes : List Shape) (fit : ShapesFit units shapes) where
   abbrev made : Emitted × List ℕ
@@ -110,7 +115,7 @@ module _ (units : List TestUnit) (shapes : List Shape) (fit : ShapesFit units sh
   entries_are : length made.1 ≡ length units
   entries_are = entries_count units shapes units shapes start fit.count
 
-  whole : After (length units) made.0 (boot_code (slice_index made.1 0) made.0)
+  pub whole : After (length units) made.0 (boot_code (slice_index made.1 0) made.0)
   whole =
       let fixed = units_are.fair.fixed in
       let some = end_inside in
@@ -131,10 +136,6 @@ module _ (units : List TestUnit) (shapes : List Shape) (fit : ShapesFit units sh
     few_instructions = few;
     few_cells = few_cells;
   }
-
-  -- and has only the operations of programs
-  pub emission_used : Used all.code
-  emission_used = All-from_recursion _ all.code (only_used (length units) (length all.code) (length all.cells) all.code whole.fair.instructions)
 
   -- it has the fixed code, and a first instruction for each unit
   pub emission_long : apply_place < length all.code

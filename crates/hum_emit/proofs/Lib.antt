@@ -18,16 +18,17 @@ pub mod ShapeTests
 pub mod Expressions
 pub mod MadeUnits
 pub mod Emitting
-pub mod Sights
 pub mod ShapeBlocks
 pub mod ShapePatterns
 pub mod ShapeTrees
 pub mod ShapeFiles
+pub mod PlainCode
 pub mod Fair
 pub mod FairData
 pub mod FairTrees
 pub mod FairUnits
 pub mod FairStart
+pub mod PlainImages
 pub mod Backwards
 pub mod Symbols
 pub mod Linking
@@ -39,3 +40,7 @@ pub mod Tops
 pub mod Findings
 pub mod Parting
 pub mod UnitTurns
+pub mod Size
+pub mod SizeStart
+pub mod SizeTrees
+pub mod SizeUnits

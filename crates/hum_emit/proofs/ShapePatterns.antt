@@ -19,7 +19,7 @@ use Rattle.hum_core.specs.declared.tested.TestBranch.{TestBranch}
 use Rattle.hum_meaning.specs.Scope as judged
 use Rattle.hum_meaning.specs.Scope.{Place, behind, most_bindings}
 use Rattle.hum_core.specs.Units as made
-use Rattle.hum_core.specs.Units.{Scope, in_order, item_names, OfPat}
+use Rattle.hum_core.specs.Units.{Scope, in_order, item_names}
 use Rattle.hum_core.specs.Lists.{tuple_tested, tested_pat}
 use Rattle.hum_core.specs.Lowering.{left_behind}
 use Rattle.hum_core.proofs.ScopedNames.{Fine, fine_parts}
@@ -27,8 +27,7 @@ use Rattle.hum_core.proofs.UnitPlaces.{made_pat, sized_pat}
 use Rattle.hum_core.proofs.BoundNames.{found_pat, made_names, found_names}
 use Rattle.hum_code.specs.Layout.{Shape}
 use Rattle.hum_code.specs.Code.{bound_behind, bound_after}
-use Rattle.hum_emit.specs.Shapes.{Inside, OfTest, of_expr, of_test, of_arm, of_branch, in_expr, of_one_test, after_all, in_all, EachTestFits, TestFits}
-use Rattle.hum_emit.proofs.Nodes.{in_arm, in_branch}
+use Rattle.hum_emit.specs.Shapes.{Inside, OfTest, of_expr, of_test, of_arm, of_branch, in_expr, in_arm, in_branch, of_one_test, after_all, in_all, EachTestFits, TestFits}
 use Rattle.hum_emit.proofs.Walking.{in_core_pat, pat_walks}
 use Rattle.hum_emit.proofs.ShapePlaces.{Here, here_parts, AllFit, none_fit, fit_both, Ready}
 use Rattle.hum_emit.proofs.ShapeTests.{to, TestsGo, PatFit, one_fits, bound_one}

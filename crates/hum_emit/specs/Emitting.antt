@@ -1,20 +1,18 @@
 -- What the emitter's state is, and the parts of code that its functions make.
-use Rattle.std.specs.Prelude.{ℕ, suc, pos, Bool, if◌then◌else◌, List, [], ◌∷◌, ◌++◌, map, Option, None}
+use Rattle.std.specs.Prelude.{ℕ, suc, pos, Bool, if◌then◌else◌, List, [], ◌∷◌, ◌++◌, Option, None}
 use Rattle.std.specs.Borrow.{Bor}
 use Rattle.std.specs.HashMap.{HashMap, get_by}
 use Rattle.std.specs.Str.{bytes_eq}
-use Rattle.hum_core.specs.declared.tested.TestExpr.{TestExpr}
-use Rattle.hum_core.specs.declared.tested.Test.{Test}
 use Rattle.hum_core.specs.declared.tested.TestArm.{TestArm, fold-TestArm}
 use Rattle.hum_core.specs.declared.tested.TestBranch.{TestBranch, fold-TestBranch}
-use Rattle.hum_code.specs.Layout.{Shape, with_singles}
+use Rattle.hum_code.specs.Layout.{Shape}
 use Rattle.hum_emit.specs.declared.emitter.Emitter.{Emitter}
 use Rattle.hum_emit.specs.declared.instruction.Datum.{Datum}
 use Rattle.hum_core.specs.declared.tested.TestUnit.{TestUnit}
 use Rattle.hum_emit.specs.declared.instruction.Field.TheVariants.{Number, Constant, Data}
-use Rattle.hum_emit.specs.Emitted.{Emitted, Piece, nothing, ◌▷◌, dup, drop, roll, jump, nil, pair_type, with_symbol}
+use Rattle.hum_emit.specs.Emitted.{Emitted, Piece, nothing, ◌▷◌, dup, drop, roll, nil, pair_type, with_symbol}
 use Rattle.hum_core.specs.declared.tested.TestStmt.{TestStmt}
-use Rattle.hum_emit.specs.Templates.{OfTest, OfExpr, OfArm, OfBranch, of_test, of_expr, of_arm, of_branch, expr_code, test_code, after_all, matching, restore, statement, shape_after, unit_code}
+use Rattle.hum_emit.specs.Templates.{OfTest, OfExpr, OfArm, OfBranch, of_test, of_expr, of_arm, of_branch, restore, statement, shape_after, unit_code}
 
 -- the number that a map has for a name
 abbrev pub number_in : {S : Type 0} → HashMap (Bor (List ℕ)) ℕ S → List ℕ → Option ℕ
@@ -47,10 +45,6 @@ abbrev pub middle_arms : List OfArm → Shape → (k : ℕ) → Emitted × ℕ �
 middle_arms [] shape k next = next
 middle_arms (a ∷ more) shape k next =
     let later = middle_arms more shape k next in (drop 2 ▷ restore ▷ a shape later.1) k later.0
-
-abbrev pub function_code : List Test → TestExpr → Shape → Piece
-function_code ts e shape =
-    roll (pos 2) ▷ matching (map test_code ts) shape ▷ expr_code e (with_singles (after_all (map test_code ts) 0) shape) ▷ roll (pos 2) ▷ jump
 
 abbrev pub arm_code : TestArm → OfArm
 arm_code = fold-TestArm OfTest OfExpr OfArm OfBranch of_test of_expr of_arm of_branch

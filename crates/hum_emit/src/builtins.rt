@@ -9,10 +9,10 @@ ghost use Rattle.hum_emit.specs.Runtime.{fail_in};
 use crate::emitter::{Emitter, FALSE, FIXNUM_TYPE, PAIR_TYPE, TRUE};
 use crate::instruction::Field;
 use crate::routines::{NO_MATCH, NO_NUMBER, NO_TRUTH, failure};
-use std::alloc::AllocError;
+use std::alloc::AllocError as NoMemory;
 
 // The parts of a pair: to `S return x y`.
-fn two_of_them(out: &mut Emitter<'_>, fails: &[u32; 7], k: u32) -> Result<u32, AllocError>
+fn two_of_them(out: &mut Emitter<'_>, fails: &[u32; 7], k: u32) -> Result<u32, NoMemory>
     ensures { IfOk result (λ at. (emitted out.new, at) ≡ spec.two_of_them (fail_in fails.now) k (emitted out.old)) }
 {
     let k = out.roll(2, k)?;
@@ -24,7 +24,7 @@ fn two_of_them(out: &mut Emitter<'_>, fails: &[u32; 7], k: u32) -> Result<u32, A
 }
 
 // Two numbers are on top.
-fn numbers(out: &mut Emitter<'_>, fails: &[u32; 7], k: u32) -> Result<u32, AllocError>
+fn numbers(out: &mut Emitter<'_>, fails: &[u32; 7], k: u32) -> Result<u32, NoMemory>
     ensures { IfOk result (λ at. (emitted out.new, at) ≡ spec.numbers (fail_in fails.now) k (emitted out.old)) }
 {
     let miss = failure(fails, NO_NUMBER);
@@ -37,7 +37,7 @@ fn numbers(out: &mut Emitter<'_>, fails: &[u32; 7], k: u32) -> Result<u32, Alloc
 }
 
 // The n-th item is a truth value.
-fn truth(out: &mut Emitter<'_>, fails: &[u32; 7], n: usize, k: u32) -> Result<u32, AllocError>
+fn truth(out: &mut Emitter<'_>, fails: &[u32; 7], n: usize, k: u32) -> Result<u32, NoMemory>
     ensures { IfOk result (λ at. (emitted out.new, at) ≡ spec.truth (fail_in fails.now) n k (emitted out.old)) }
 {
     let other = out.choose(failure(fails, NO_TRUTH), k)?;
@@ -49,7 +49,7 @@ fn truth(out: &mut Emitter<'_>, fails: &[u32; 7], n: usize, k: u32) -> Result<u3
 }
 
 // A sum, a difference or a product.
-fn calculates(out: &mut Emitter<'_>, fails: &[u32; 7], n: usize, k: u32) -> Result<u32, AllocError>
+fn calculates(out: &mut Emitter<'_>, fails: &[u32; 7], n: usize, k: u32) -> Result<u32, NoMemory>
     ensures { IfOk result (λ at. (emitted out.new, at) ≡ spec.calculates (fail_in fails.now) (spec.alu n) k (emitted out.old)) }
 {
     let k = out.alu(n, k)?;
@@ -58,7 +58,7 @@ fn calculates(out: &mut Emitter<'_>, fails: &[u32; 7], n: usize, k: u32) -> Resu
 }
 
 // Whether one number is less, or greater, than another one.
-fn tests(out: &mut Emitter<'_>, fails: &[u32; 7], n: usize, k: u32) -> Result<u32, AllocError>
+fn tests(out: &mut Emitter<'_>, fails: &[u32; 7], n: usize, k: u32) -> Result<u32, NoMemory>
     ensures { IfOk result (λ at. (emitted out.new, at) ≡ spec.calculates (fail_in fails.now) (spec.cmp n) k (emitted out.old)) }
 {
     let k = out.cmp(n, k)?;
@@ -67,7 +67,7 @@ fn tests(out: &mut Emitter<'_>, fails: &[u32; 7], n: usize, k: u32) -> Result<u3
 }
 
 // The order of two numbers.
-fn orders(out: &mut Emitter<'_>, fails: &[u32; 7], k: u32) -> Result<u32, AllocError>
+fn orders(out: &mut Emitter<'_>, fails: &[u32; 7], k: u32) -> Result<u32, NoMemory>
     ensures { IfOk result (λ at. (emitted out.new, at) ≡ spec.orders (fail_in fails.now) k (emitted out.old)) }
 {
     let level = out.push(Field::Number(0), k)?;
@@ -84,7 +84,7 @@ fn orders(out: &mut Emitter<'_>, fails: &[u32; 7], k: u32) -> Result<u32, AllocE
 }
 
 // Both are true.
-fn both(out: &mut Emitter<'_>, fails: &[u32; 7], k: u32) -> Result<u32, AllocError>
+fn both(out: &mut Emitter<'_>, fails: &[u32; 7], k: u32) -> Result<u32, NoMemory>
     ensures { IfOk result (λ at. (emitted out.new, at) ≡ spec.both (fail_in fails.now) k (emitted out.old)) }
 {
     let no = out.push(FALSE, k)?;
@@ -96,7 +96,7 @@ fn both(out: &mut Emitter<'_>, fails: &[u32; 7], k: u32) -> Result<u32, AllocErr
 }
 
 // One of them is true.
-fn any(out: &mut Emitter<'_>, fails: &[u32; 7], k: u32) -> Result<u32, AllocError>
+fn any(out: &mut Emitter<'_>, fails: &[u32; 7], k: u32) -> Result<u32, NoMemory>
     ensures { IfOk result (λ at. (emitted out.new, at) ≡ spec.any (fail_in fails.now) k (emitted out.old)) }
 {
     let yes = out.push(TRUE, k)?;
@@ -107,7 +107,7 @@ fn any(out: &mut Emitter<'_>, fails: &[u32; 7], k: u32) -> Result<u32, AllocErro
     two_of_them(out, fails, k)
 }
 
-fn negates(out: &mut Emitter<'_>, fails: &[u32; 7], k: u32) -> Result<u32, AllocError>
+fn negates(out: &mut Emitter<'_>, fails: &[u32; 7], k: u32) -> Result<u32, NoMemory>
     ensures { IfOk result (λ at. (emitted out.new, at) ≡ spec.negates (fail_in fails.now) k (emitted out.old)) }
 {
     let k = out.eq(FALSE, k)?;
@@ -121,7 +121,7 @@ pub fn built_ins(
     fails: &[u32; 7],
     compare: u32,
     k: u32,
-) -> Result<[u32; 12], AllocError>
+) -> Result<[u32; 12], NoMemory>
     ensures { IfOk result (λ places. (emitted out.new, places)
         ≡ spec.each (spec.built_in_codes (fail_in fails.now) compare) k (emitted out.old)) }
 {

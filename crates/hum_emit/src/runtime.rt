@@ -9,10 +9,10 @@ use crate::builtins::built_ins;
 use crate::emitter::{BLOCK_TYPE, Emitter, FALSE, FUNCTION_TYPE, NIL, PAIR_TYPE, TRUE};
 use crate::instruction::Field;
 use crate::routines::{NO_FUNCTION, Routines, failure};
-use std::alloc::{AllocError, Global};
+use std::alloc::{AllocError as NoMemory, Global};
 
 // The failures with the codes from 1 on.
-fn failures(out: &mut Emitter<'_>, abort: u32) -> Result<[u32; 7], AllocError>
+fn failures(out: &mut Emitter<'_>, abort: u32) -> Result<[u32; 7], NoMemory>
     ensures { IfOk result (λ places. (emitted out.new, places)
         ≡ spec.each (map spec.fails_with failure_codes) abort (emitted out.old)) }
 {
@@ -26,14 +26,14 @@ fn failures(out: &mut Emitter<'_>, abort: u32) -> Result<[u32; 7], AllocError>
     Ok([first, second, third, fourth, fifth, sixth, seventh])
 }
 
-fn back(out: &mut Emitter<'_>) -> Result<u32, AllocError>
+fn back(out: &mut Emitter<'_>) -> Result<u32, NoMemory>
     ensures { IfOk result (λ at. (emitted out.new, at) ≡ spec.back 0 (emitted out.old)) }
 {
     let k = out.jump()?;
     out.roll(2, k)
 }
 
-fn call_code(out: &mut Emitter<'_>, fails: &[u32; 7]) -> Result<u32, AllocError>
+fn call_code(out: &mut Emitter<'_>, fails: &[u32; 7]) -> Result<u32, NoMemory>
     ensures { IfOk result (λ at. (emitted out.new, at) ≡ spec.call_code (fail_in fails.now) 0 (emitted out.old)) }
 {
     let k = out.jump()?;
@@ -46,7 +46,7 @@ fn call_code(out: &mut Emitter<'_>, fails: &[u32; 7]) -> Result<u32, AllocError>
     out.roll_down(3, k)
 }
 
-fn exec_code(out: &mut Emitter<'_>) -> Result<u32, AllocError>
+fn exec_code(out: &mut Emitter<'_>) -> Result<u32, NoMemory>
     ensures { IfOk result (λ at. (emitted out.new, at) ≡ spec.exec_code 0 (emitted out.old)) }
 {
     let k = out.jump()?;
@@ -59,7 +59,7 @@ fn exec_code(out: &mut Emitter<'_>) -> Result<u32, AllocError>
     out.roll(2, k)
 }
 
-fn apply_code(out: &mut Emitter<'_>, call: u32, exec: u32, end: u32) -> Result<u32, AllocError>
+fn apply_code(out: &mut Emitter<'_>, call: u32, exec: u32, end: u32) -> Result<u32, NoMemory>
     ensures { IfOk result (λ at. (emitted out.new, at) ≡ spec.apply_code call exec end (emitted out.old)) }
 {
     let k = out.calls(exec, end)?;
@@ -69,7 +69,7 @@ fn apply_code(out: &mut Emitter<'_>, call: u32, exec: u32, end: u32) -> Result<u
 }
 
 // In the comparison: a and b are pairs, or differ.
-fn pairs_code(out: &mut Emitter<'_>, head: u32, differ: u32) -> Result<u32, AllocError>
+fn pairs_code(out: &mut Emitter<'_>, head: u32, differ: u32) -> Result<u32, NoMemory>
     ensures { IfOk result (λ at. (emitted out.new, at) ≡ spec.pairs_code head differ 0 (emitted out.old)) }
 {
     let k = out.nth(1, head)?;
@@ -85,7 +85,7 @@ fn pairs_code(out: &mut Emitter<'_>, head: u32, differ: u32) -> Result<u32, Allo
 }
 
 // In the comparison: a and b were the same.
-fn more_code(out: &mut Emitter<'_>, head: u32, k: u32) -> Result<u32, AllocError>
+fn more_code(out: &mut Emitter<'_>, head: u32, k: u32) -> Result<u32, NoMemory>
     ensures { IfOk result (λ at. (emitted out.new, at) ≡ spec.more_code head k (emitted out.old)) }
 {
     let yes = out.push(TRUE, k)?;
@@ -106,7 +106,7 @@ fn leaves_code(
     differ: u32,
     deny: u32,
     k: u32,
-) -> Result<u32, AllocError>
+) -> Result<u32, NoMemory>
     ensures { IfOk result (λ at. (emitted out.new, at) ≡ spec.leaves_code head differ deny k (emitted out.old)) }
 {
     let k = more_code(out, head, k)?;
@@ -127,7 +127,7 @@ fn compare_turn(
     deny: u32,
     head: u32,
     k: u32,
-) -> Result<u32, AllocError>
+) -> Result<u32, NoMemory>
     ensures { IfOk result (λ at. (emitted out.new, at) ≡ spec.compare_turn differ deny head k (emitted out.old)) }
 {
     let leaves = leaves_code(out, head, differ, deny, k)?;
@@ -138,7 +138,7 @@ fn compare_turn(
 }
 
 // The turn goes back to its own beginning: it is made once to find that, and then again with it.
-fn compare_turns(out: &mut Emitter<'_>, differ: u32, deny: u32, k: u32) -> Result<u32, AllocError>
+fn compare_turns(out: &mut Emitter<'_>, differ: u32, deny: u32, k: u32) -> Result<u32, NoMemory>
     ensures { IfOk result (λ at. (emitted out.new, at) ≡ spec.looped (spec.compare_turn differ deny) k (emitted out.old)) }
 {
     let count = out.count();
@@ -147,7 +147,7 @@ fn compare_turns(out: &mut Emitter<'_>, differ: u32, deny: u32, k: u32) -> Resul
     compare_turn(out, differ, deny, head, k)
 }
 
-fn compare_loop(out: &mut Emitter<'_>, k: u32) -> Result<u32, AllocError>
+fn compare_loop(out: &mut Emitter<'_>, k: u32) -> Result<u32, NoMemory>
     ensures { IfOk result (λ at. (emitted out.new, at) ≡ spec.compare_loop k (emitted out.old)) }
 {
     let deny = out.push(FALSE, k)?;
@@ -156,7 +156,7 @@ fn compare_loop(out: &mut Emitter<'_>, k: u32) -> Result<u32, AllocError>
     compare_turns(out, differ, deny, k)
 }
 
-fn compare_code(out: &mut Emitter<'_>, k: u32) -> Result<u32, AllocError>
+fn compare_code(out: &mut Emitter<'_>, k: u32) -> Result<u32, NoMemory>
     ensures { IfOk result (λ at. (emitted out.new, at) ≡ spec.compare_code k (emitted out.old)) }
 {
     let k = compare_loop(out, k)?;
@@ -165,7 +165,7 @@ fn compare_code(out: &mut Emitter<'_>, k: u32) -> Result<u32, AllocError>
 }
 
 /// Begins with the fixed code, and says where its parts are.
-pub fn fixed_code<'a>(alloc: Global) -> Result<(Emitter<'a>, Routines), AllocError>
+pub fn fixed_code<'a>(alloc: Global) -> Result<(Emitter<'a>, Routines), NoMemory>
     ensures { IfOk result (λ made. emitted made.0 ≡ record no_code { code = runtime }) }
 {
     let mut out = Emitter::new(alloc);

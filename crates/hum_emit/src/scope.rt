@@ -13,7 +13,7 @@ use crate::instruction::Field;
 use crate::routines::Routines;
 use crate::shape::Entry;
 use hum_core::Slot;
-use std::alloc::AllocError;
+use std::alloc::AllocError as NoMemory;
 
 /// What code can name at a place: the fixed code, the entries of the statement's place, the oldest first, and so many bindings in front of them.
 #[derive(Clone, Copy)]
@@ -26,11 +26,11 @@ pub struct Scope<'s, 'a> {
 impl<'s, 'a> Scope<'s, 'a> {
     /// So many bindings more.
     #[tactic(auto, using(crate::proofs::Scopes::more_singles), unfolding(crate::specs::Shaping::shape_in))]
-    pub fn within(&self, count: usize) -> Result<Scope<'s, 'a>, AllocError>
+    pub fn within(&self, count: usize) -> Result<Scope<'s, 'a>, NoMemory>
         ensures { IfOk result (λ inner. shape_in inner ≡ with_singles count (shape_in self.now)) }
     {
         if count > usize::MAX - self.inner {
-            return Err(AllocError);
+            return Err(NoMemory);
         }
         Ok(Scope {
             routines: self.routines,
@@ -74,7 +74,7 @@ fn unit_of(units: &[u32], member: usize) -> u32
 }
 
 /// A function of that unit.
-pub fn function(out: &mut Emitter<'_>, unit: u32, k: u32) -> Result<u32, AllocError>
+pub fn function(out: &mut Emitter<'_>, unit: u32, k: u32) -> Result<u32, NoMemory>
     ensures { IfOk result (λ at. (emitted out.new, at) ≡ spec.function unit k (emitted out.old)) }
 {
     let k = out.quad(k)?;
@@ -83,7 +83,7 @@ pub fn function(out: &mut Emitter<'_>, unit: u32, k: u32) -> Result<u32, AllocEr
 }
 
 /// A block of that unit.
-pub fn block(out: &mut Emitter<'_>, unit: u32, k: u32) -> Result<u32, AllocError>
+pub fn block(out: &mut Emitter<'_>, unit: u32, k: u32) -> Result<u32, NoMemory>
     ensures { IfOk result (λ at. (emitted out.new, at) ≡ spec.block unit k (emitted out.old)) }
 {
     let k = out.quad(k)?;
@@ -97,7 +97,7 @@ pub fn variable(
     scope: &Scope<'_, '_>,
     slot: &Slot,
     k: u32,
-) -> Result<u32, AllocError>
+) -> Result<u32, NoMemory>
     ensures { IfOk result (λ at. (emitted out.new, at) ≡ spec.variable slot.now.back slot.now.member (shape_in scope.now) k (emitted out.old)) }
 {
     let back = slot.back as usize;
