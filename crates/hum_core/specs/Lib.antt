@@ -12,4 +12,6 @@ pub mod Lowering
 pub mod Lists
 pub mod Units
 pub mod Bound
+pub mod Likeness
+pub mod Programs
 pub mod Laws

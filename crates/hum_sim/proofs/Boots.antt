@@ -74,23 +74,27 @@ module _ (lay : Layout) (image : RomImage) (program : IsProgram image lay) (gran
   pub boot_stands : StateStands lay image.cells (λ n. unspent) s opening
   boot_stands = record {
     rom_is = refl;
-    actors = (
+    code_out = boot_code_out image grant lanes;
+    roll = record {
+     actors = (
       record { code = image.boot; state = Ram 5; mark = undef; there = refl; idle = λ e. refl; behaves = (refl, inr (refl, program.boot, boot_devices, refl)) },
       (
         record { code = Fix (pos 0); state = undef; mark = undef; there = refl; idle = λ e. refl; behaves = (refl, refl) },
         (record { code = Fix (pos 1); state = undef; mark = undef; there = refl; idle = λ e. refl; behaves = (refl, refl) }, tt),
       ),
     );
-    once = boot_once;
-    front = ([], refl);
+     once = boot_once;
+     front = ([], refl);
+    };
     messages = (record { number = refl; target = first_actor; content = nil; there = refl; target_is = refl; value = boot_nil }, tt);
     next_number = refl;
     output = refl;
-    flight = tt;
-    events = boot-flight image grant lanes;
-    targets = λ i j k l a b e. absurd (none-some k a);
+    flight = record {
+      events = tt;
+      sound = boot-flight image grant lanes;
+      targets = λ i j k l a b e. absurd (none-some k a);
+      room = omega arith;
+      in_turn = λ one. tt;
+    };
     root = record { account = root_account root grant; only = refl; is_root = refl; no_signal = refl; runs = λ e. refl };
-    code_out = boot_code_out image grant lanes;
-    room = omega arith;
-    in_turn = λ one. tt;
   }

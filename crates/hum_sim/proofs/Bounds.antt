@@ -20,7 +20,7 @@ use Rattle.hum_code.specs.Ending.{DeliveryOutcome, sends_of, IsWithin}
 use Rattle.hum_sim.specs.Program.{IsProgram}
 use Rattle.hum_sim.specs.Spent.{Spending}
 use Rattle.hum_sim.specs.Standing.{LaneStands, StateStands}
-use Rattle.hum_sim.specs.Legal.{SpentWithin}
+use Rattle.hum_sim.specs.Within.{SpentWithin}
 use Rattle.hum_sim.proofs.Lanes.{as_many, lane_stands, names_distinct, out_of, follows, are_actors}
 
 -- at most that much, in a delivery that so many steps decide

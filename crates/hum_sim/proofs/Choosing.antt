@@ -24,7 +24,7 @@ use Rattle.hum_core.specs.TestLists.{Tests}
 use Rattle.hum_code.specs.Layout.{Layout}
 use Rattle.hum_sim.specs.Program.{IsProgram}
 use Rattle.hum_sim.specs.Spent.{Spending}
-use Rattle.hum_sim.specs.Standing.{first_to, Rests, ActorStands, MessageStands, StateStands}
+use Rattle.hum_sim.specs.Standing.{first_to, NoEventOf, ActorStands, MessageStands, StateStands}
 use Rattle.hum_sim.proofs.Lists.{tested, none_inside, each_at, each_from, one_there}
 use Rattle.hum_sim.proofs.Pending.{Pending, rising_as, message_at, first_at, head_at}
 use Rattle.hum_sim.proofs.Stores.{idle_there}
@@ -81,9 +81,9 @@ module _ (lay : Layout) (rom_of : RomImage) (program : IsProgram rom_of lay) {gr
     -- where nothing is in flight each can go
     pub all_go : s.flight ≡ [] → (j : ℕ) (y : Message) (q : Pending) → slice_get c.pending j ≡ Some q → MessageStands lay s.store s.roll y q → can_go s.store s.sheet s.flight y ≡ true
     all_go none j y q at v =
-        let a = each_at (ActorStands lay s.store s.roll s.flight) s.roll c.behaviours q.target v.target h.actors v.target_is in
+        let a = each_at (ActorStands lay s.store s.roll s.flight) s.roll c.behaviours q.target v.target h.roll.actors v.target_is in
         let x = a.2 in
-        let mark : x.mark ≡ undef = x.idle (subst (λ (ls : List Lane). Rests v.target ls) (sym none) tt) in
+        let mark : x.mark ≡ undef = x.idle (subst (λ (ls : List Lane). NoEventOf v.target ls) (sym none) tt) in
         idle_goes j y q at v x.code x.state (x.there ∙ ap (λ (w : W). Some (ActorSlot x.code x.state w)) mark)
 
     module _ (m : Message) (chosen : dispatchable s ≡ Some m) where
@@ -139,4 +139,4 @@ module _ (lay : Layout) (rom_of : RomImage) (program : IsProgram rom_of lay) {gr
 
       -- its target's actor
       pub target_stands : (b : Behaviour Tests) × (slice_get c.behaviours p.target ≡ Some b) × ActorStands lay s.store s.roll s.flight stands.target b
-      target_stands = each_at (ActorStands lay s.store s.roll s.flight) s.roll c.behaviours p.target stands.target h.actors stands.target_is
+      target_stands = each_at (ActorStands lay s.store s.roll s.flight) s.roll c.behaviours p.target stands.target h.roll.actors stands.target_is

@@ -30,7 +30,7 @@ use Rattle.hum_code.specs.Reaches.{Spent, unspent, Reaches, dispatched}
 use Rattle.hum_code.proofs.Standing.{longer_same, stands_later}
 use Rattle.hum_sim.specs.Program.{IsProgram}
 use Rattle.hum_sim.specs.Spent.{Spending, with_spent}
-use Rattle.hum_sim.specs.Standing.{Rests, BehaviourStands, ActorStands, MessageStands, LaneStands, IsFirst, StateStands}
+use Rattle.hum_sim.specs.Standing.{NoEventOf, BehaviourStands, ActorStands, MessageStands, LaneStands, IsFirst, StateStands}
 use Rattle.hum_sim.proofs.Lists.{every_both, none_inside, each_by}
 use Rattle.hum_sim.proofs.Pending.{Pending, message_number, message_without, first_without, each_without}
 use Rattle.hum_sim.proofs.Stores.{actor_other, shown_actor, busy_seen, busy_grows}
@@ -78,7 +78,7 @@ module _ (lay : Layout) (rom_of : RomImage) (program : IsProgram rom_of lay) {gr
   others_numbers = other_every m.number s.flight (dispatchable-chosen s m chosen).other
 
   others_actors : Every (λ (k : Lane). k.own.actor ≡ target → ⊥) s.flight
-  others_actors = of s.flight h.events.stands
+  others_actors = of s.flight h.flight.sound.stands
     where
       of : (ls : List Lane) → Every (StandsIn s.store) ls → Every (λ (k : Lane). k.own.actor ≡ target → ⊥) ls
       of [] e = tt
@@ -144,7 +144,7 @@ module _ (lay : Layout) (rom_of : RomImage) (program : IsProgram rom_of lay) {gr
         behaves = behaviour_later lay s.store store' s.roll s.roll grows (longer_same s.roll) u x.code x.state b x.behaves;
       }
         where
-          last : (ls : List Lane) → Rests u (ls ++ new ∷ []) → target ≡ u → ⊥
+          last : (ls : List Lane) → NoEventOf u (ls ++ new ∷ []) → target ≡ u → ⊥
           last [] r d = r.0 d
           last (l ∷ ls) r d = last ls r.1 d
 
@@ -166,10 +166,12 @@ module _ (lay : Layout) (rom_of : RomImage) (program : IsProgram rom_of lay) {gr
     behaviour = v;
     behaves = at;
     base = store';
-    rom_is = refl;
-    shown = shown_actor store' target (ActorSlot actor.code actor.state (Fix (pos m.number))) busy_there refl;
-    answers = answers_later lay s.store store' s.roll s.roll grows (longer_same s.roll) target actor.code actor.state v b.1;
-    value = stands_later lay s.store store' s.roll s.roll grows (longer_same s.roll) stands.content p.value stands.value;
+    begins = record {
+      rom_is = refl;
+      shown = shown_actor store' target (ActorSlot actor.code actor.state (Fix (pos m.number))) busy_there refl;
+      answers = answers_later lay s.store store' s.roll s.roll grows (longer_same s.roll) target actor.code actor.state v b.1;
+      message = stands_later lay s.store store' s.roll s.roll grows (longer_same s.roll) stands.content p.value stands.value;
+    };
     reached =
         let e : spent' m.number ≡ unspent = rw (eq-eqb m.number m.number refl) refl in
         subst (λ (n : Spent). Reaches store' (begun m.number own') store' new n) (sym e) dispatched;
@@ -180,25 +182,29 @@ module _ (lay : Layout) (rom_of : RomImage) (program : IsProgram rom_of lay) {gr
   pub dispatch_stands : device_of target ≡ None → FlightSound begun_state → Targets begun_state → StateStands lay rom_of.cells spent' begun_state c
   dispatch_stands none events targets = record {
     rom_is = rom_same ∙ h.rom_is;
-    actors = each_by (ActorStands lay s.store s.roll s.flight) (ActorStands lay store' s.roll flight') s.roll c.behaviours an_actor h.actors;
-    once = h.once;
-    front = h.front;
+    roll = record {
+      actors = each_by (ActorStands lay s.store s.roll s.flight) (ActorStands lay store' s.roll flight') s.roll c.behaviours an_actor h.roll.actors;
+      once = h.roll.once;
+      front = h.roll.front;
+    };
     messages = each_by (MessageStands lay s.store s.roll) (MessageStands lay store' s.roll) s.messages c.pending a_message h.messages;
     next_number = h.next_number;
     output = h.output;
-    flight = every-append (LaneStands lay store' s.roll c spent') s.flight (new ∷ [])
-        (every_both (λ (k : Lane). k.number ≡ m.number → ⊥) (LaneStands lay s.store s.roll c spent) (LaneStands lay store' s.roll c spent') other s.flight others_numbers h.flight)
-        (itself found.0 found.1 none actor.behaves, tt);
-    events = events;
-    targets = targets;
+    flight = record {
+      events = every-append (LaneStands lay store' s.roll c spent') s.flight (new ∷ [])
+          (every_both (λ (k : Lane). k.number ≡ m.number → ⊥) (LaneStands lay s.store s.roll c spent) (LaneStands lay store' s.roll c spent') other s.flight others_numbers h.flight.events)
+          (itself found.0 found.1 none actor.behaves, tt);
+      sound = events;
+      targets = targets;
+      room =
+          let f = (choosing.next lay rom_of program spent s c ok h running m chosen).free in
+          let k = length-append s.flight (new ∷ []) in
+          omega (arith, k, f);
+      in_turn = λ one. every-append (IsFirst lay c) s.flight (new ∷ []) (h.flight.in_turn one)
+          ((p, choosing.first_of_all lay rom_of program spent s c ok h running m chosen one, sym stands.number), tt);
+    };
     root = h.root;
     code_out = code_out_alike s.store store' (alike-busy s.store target m.number) h.code_out;
-    room =
-        let f = (choosing.next lay rom_of program spent s c ok h running m chosen).free in
-        let k = length-append s.flight (new ∷ []) in
-        omega (arith, k, f);
-    in_turn = λ one. every-append (IsFirst lay c) s.flight (new ∷ []) (h.in_turn one)
-        ((p, choosing.first_of_all lay rom_of program spent s c ok h running m chosen one, sym stands.number), tt);
   }
 
   -- ---- a device's delivery
@@ -217,10 +223,7 @@ module _ (lay : Layout) (rom_of : RomImage) (program : IsProgram rom_of lay) {gr
         behaviour = f.behaviour;
         behaves = f.behaves;
         base = f.base;
-        rom_is = f.rom_is;
-        shown = f.shown;
-        answers = f.answers;
-        value = f.value;
+        begins = f.begins;
         reached = subst (λ (n : Spent). Reaches f.base (begun k.number k.own) s.store k n) (sym (rw (ne_eqb k.number m.number d) refl)) f.reached;
         sponsor = f.sponsor;
         sent = f.sent;
@@ -236,10 +239,7 @@ module _ (lay : Layout) (rom_of : RomImage) (program : IsProgram rom_of lay) {gr
     behaviour = f.behaviour;
     behaves = f.behaves;
     base = f.base;
-    rom_is = f.rom_is;
-    shown = f.shown;
-    answers = f.answers;
-    value = f.value;
+    begins = f.begins;
     reached = f.reached;
     sponsor = f.sponsor;
     sent = f.sent;
@@ -249,20 +249,20 @@ module _ (lay : Layout) (rom_of : RomImage) (program : IsProgram rom_of lay) {gr
       → StateStands lay rom_of.cells spent' (delivered s m.number end bytes) (printed_to bytes)
   device_stands end bytes events targets = record {
     rom_is = h.rom_is;
-    actors = h.actors;
-    once = h.once;
-    front = h.front;
+    roll = record { actors = h.roll.actors; once = h.roll.once; front = h.roll.front };
     messages =
         subst (λ (n : ℕ). Each (MessageStands lay s.store s.roll) (machine.without m.number s.messages) (without n c.pending)) stands.number
         (each_without (MessageStands lay s.store s.roll) (λ x q r. r.number) m.number s.messages c.pending h.messages);
     next_number = h.next_number;
     output = ap (λ (o : List ℕ). o ++ bytes) h.output;
-    flight = every_both (λ (k : Lane). k.number ≡ m.number → ⊥) (LaneStands lay s.store s.roll c spent) (LaneStands lay s.store s.roll (printed_to bytes) spent')
-        (λ k d f. lane_output (without p.number c.pending) (c.output ++ bytes) k (device_other k d f)) s.flight others_numbers h.flight;
-    events = events;
-    targets = targets;
+    flight = record {
+      events = every_both (λ (k : Lane). k.number ≡ m.number → ⊥) (LaneStands lay s.store s.roll c spent) (LaneStands lay s.store s.roll (printed_to bytes) spent')
+          (λ k d f. lane_output (without p.number c.pending) (c.output ++ bytes) k (device_other k d f)) s.flight others_numbers h.flight.events;
+      sound = events;
+      targets = targets;
+      room = h.flight.room;
+      in_turn = λ one. subst (Every (IsFirst lay (printed_to bytes))) (sym (no_flight one)) tt;
+    };
     root = h.root;
     code_out = h.code_out;
-    room = h.room;
-    in_turn = λ one. subst (Every (IsFirst lay (printed_to bytes))) (sym (no_flight one)) tt;
   }

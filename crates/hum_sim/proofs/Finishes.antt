@@ -124,7 +124,7 @@ module _ (lay : Layout) (rom_of : RomImage) (program : IsProgram rom_of lay) {gr
 
   target : ActorStands lay s.store s.roll s.flight a (Answers f.behaviour)
   target =
-      let b = each_at (ActorStands lay s.store s.roll s.flight) s.roll c.behaviours f.message.target a h.actors f.actor_is in
+      let b = each_at (ActorStands lay s.store s.roll s.flight) s.roll c.behaviours f.message.target a h.roll.actors f.actor_is in
       subst (ActorStands lay s.store s.roll s.flight a) (same_Some b.0 (Answers f.behaviour) (sym b.1 ∙ f.behaves)) b.2
 
   -- no actor of the roll was created by it
@@ -165,7 +165,7 @@ module _ (lay : Layout) (rom_of : RomImage) (program : IsProgram rom_of lay) {gr
   -- ---- actors
 
   on_roll : Distinct s.roll
-  on_roll = distinct_by s.roll h.once
+  on_roll = distinct_by s.roll h.roll.once
 
   an_actor : (j : ℕ) (u : W) (b : Behaviour Tests) → (j ≡ f.message.target → ⊥) → slice_get s.roll j ≡ Some u → ActorStands lay s.store s.roll s.flight u b → ActorStands lay store' roll' flight' u b
   an_actor j u b d there y =
@@ -187,7 +187,7 @@ module _ (lay : Layout) (rom_of : RomImage) (program : IsProgram rom_of lay) {gr
   no_device w u =
       let on : List W → Type 0 = λ (ws : List W). (v : W) → Among v ws → (slot_seen s.store v ≡ Some UnbornSlot → ⊥) in
       let all : on s.roll = λ v m k. let y = is_actor lay rom_of program spent s c ok h v m in let z = y.3 in absurd cc in
-      let front : on (first_actor ∷ println_device ∷ say_device ∷ h.front.0) = subst on h.front.1 all in
+      let front : on (first_actor ∷ println_device ∷ say_device ∷ h.roll.front.0) = subst on h.roll.front.1 all in
       let one : w ≡ println_device → ⊥ = λ d. front println_device (inr (inl refl)) (ap (λ (v : W). slot_seen s.store v) (sym d) ∙ u) in
       let two : w ≡ say_device → ⊥ = λ d. front say_device (inr (inr (inl refl))) (ap (λ (v : W). slot_seen s.store v) (sym d) ∙ u) in
       rw (word_other w println_device one, word_other w say_device two) refl
@@ -205,7 +205,7 @@ module _ (lay : Layout) (rom_of : RomImage) (program : IsProgram rom_of lay) {gr
   actors' : Each (ActorStands lay store' roll' flight') roll' c'.behaviours
   actors' =
       let first = each_set (ActorStands lay s.store s.roll s.flight) (ActorStands lay store' roll' flight') s.roll c.behaviours f.message.target a (Answers (after f.behaviour e.next)) f.actor_is
-      an_actor its_actor h.actors in
+      an_actor its_actor h.roll.actors in
       let second = each_made (MadeStands lay s.store roll') (ActorStands lay store' roll' flight') e.created x.created made_actor eff.created in
       each_append (ActorStands lay store' roll' flight') s.roll (replaced c.behaviours f.message.target e.next) (made_words x.created) (map Answers e.created)
       (subst (Each (ActorStands lay store' roll' flight') s.roll) (sym (replaced_is c.behaviours f.message.target f.behaviour e.next f.behaves)) first) second
@@ -245,22 +245,26 @@ module _ (lay : Layout) (rom_of : RomImage) (program : IsProgram rom_of lay) {gr
       → StateStands lay rom_of.cells spent' (record (finish s i l sheet x end) { out_of = out }) c'
   finish_stands end sheet out alone events targets = record {
     rom_is = rom_same ∙ h.rom_is;
-    actors = actors';
-    once = both_once s.roll (made_words x.created) h.once unborn.once not_made;
-    front = (h.front.0 ++ made_words x.created, ap (λ (ws : List W). ws ++ made_words x.created) h.front.1);
+    roll = record {
+      actors = actors';
+      once = both_once s.roll (made_words x.created) h.roll.once unborn.once not_made;
+      front = (h.roll.front.0 ++ made_words x.created, ap (λ (ws : List W). ws ++ made_words x.created) h.roll.front.1);
+    };
     messages = messages';
     next_number = let n = each_length (SentStands lay s.store roll') e.sent x.sent eff.sent in omega (arith, n, h.next_number);
     output = h.output;
-    flight = every_both (λ (k : Lane). (k.number ≡ l.number → ⊥) × (k.own.actor ≡ a → ⊥)) (LaneStands lay s.store s.roll c spent) (LaneStands lay store' roll' c' spent') other flight'
-        (every_both (λ (k : Lane). k.number ≡ l.number → ⊥) (λ (k : Lane). k.own.actor ≡ a → ⊥) (λ (k : Lane). (k.number ≡ l.number → ⊥) × (k.own.actor ≡ a → ⊥)) (λ k p q. (p, q)) flight'
-        (others_numbers lay rom_of program spent s c ok h i l at) (others_actors lay rom_of program spent s c ok h i l at))
-        (every-removed (LaneStands lay s.store s.roll c spent) s.flight i h.flight);
-    events = events;
-    targets = targets;
+    flight = record {
+      events = every_both (λ (k : Lane). (k.number ≡ l.number → ⊥) × (k.own.actor ≡ a → ⊥)) (LaneStands lay s.store s.roll c spent) (LaneStands lay store' roll' c' spent') other flight'
+          (every_both (λ (k : Lane). k.number ≡ l.number → ⊥) (λ (k : Lane). k.own.actor ≡ a → ⊥) (λ (k : Lane). (k.number ≡ l.number → ⊥) × (k.own.actor ≡ a → ⊥)) (λ k p q. (p, q)) flight'
+          (others_numbers lay rom_of program spent s c ok h i l at) (others_actors lay rom_of program spent s c ok h i l at))
+          (every-removed (LaneStands lay s.store s.roll c spent) s.flight i h.flight.events);
+      sound = events;
+      targets = targets;
+      room = let k = length-removed s.flight i l at in omega (arith, k, h.flight.room);
+      in_turn = λ one. subst (Every (IsFirst lay c')) (sym (removed_only s.flight i l (let r = h.flight.room in omega (arith, one, r)) at)) tt;
+    };
     root = alone;
     code_out = code_out_alike s.store store' (alike-settled s.store a x) h.code_out;
-    room = let k = length-removed s.flight i l at in omega (arith, k, h.room);
-    in_turn = λ one. subst (Every (IsFirst lay c')) (sym (removed_only s.flight i l (let r = h.room in omega (arith, one, r)) at)) tt;
   }
 
 -- nothing takes place

@@ -31,7 +31,7 @@ use Rattle.hum_code.specs.Reaches.{Spent, spent_more, Reaches, stepped}
 use Rattle.hum_code.proofs.Standing.{longer_same}
 use Rattle.hum_sim.specs.Program.{IsProgram}
 use Rattle.hum_sim.specs.Spent.{Spending, with_spent}
-use Rattle.hum_sim.specs.Standing.{Rests, ActorStands, MessageStands, LaneStands, RootAlone, IsFirst, StateStands}
+use Rattle.hum_sim.specs.Standing.{NoEventOf, ActorStands, MessageStands, LaneStands, RootAlone, IsFirst, StateStands}
 use Rattle.hum_sim.proofs.Lists.{every_both, every_set, each_by}
 use Rattle.hum_sim.proofs.Pending.{Pending}
 use Rattle.hum_sim.proofs.Stores.{going_seen, going_rom}
@@ -42,7 +42,7 @@ use Rattle.hum_sim.proofs.Lanes.{lane_stands, others_numbers}
 use Rattle.hum_sim.proofs.Dispatches.{Targets}
 
 -- an event goes on, and stays one of its actor
-rests_set : (u : W) (ls : List Lane) (i : ℕ) (l new : Lane) → slice_get ls i ≡ Some l → new.own.actor ≡ l.own.actor → Rests u (slice_set ls i new) → Rests u ls
+rests_set : (u : W) (ls : List Lane) (i : ℕ) (l new : Lane) → slice_get ls i ≡ Some l → new.own.actor ≡ l.own.actor → NoEventOf u (slice_set ls i new) → NoEventOf u ls
 rests_set u [] i l new at e r = tt
 rests_set u (k ∷ ls) zero l new at e r = ((λ d. r.0 (e ∙ (ap (λ (x : Lane). x.own.actor) (sym (same_Some k l at)) ∙ d))), r.1)
 rests_set u (k ∷ ls) (suc i) l new at e r = (r.0, rests_set u ls i l new at e r.1)
@@ -118,10 +118,7 @@ module _ (lay : Layout) (rom_of : RomImage) (program : IsProgram rom_of lay) {gr
     behaviour = f.behaviour;
     behaves = f.behaves;
     base = f.base;
-    rom_is = f.rom_is ∙ sym rom_same;
-    shown = f.shown;
-    answers = f.answers;
-    value = f.value;
+    begins = record { rom_is = f.begins.rom_is ∙ sym rom_same; shown = f.begins.shown; answers = f.begins.answers; message = f.begins.message };
     reached =
         let e : spent' l.number ≡ spent_more (spent l.number) (lane_row s.store s.sheet l).charge = rw (eq-eqb l.number l.number refl) refl in
         subst (λ (n : Spent). Reaches f.base (begun l.number l.own) store' new n) (sym e) (stepped s.sheet g f.reached goes);
@@ -135,22 +132,26 @@ module _ (lay : Layout) (rom_of : RomImage) (program : IsProgram rom_of lay) {gr
   pub goes_on_stands : FlightSound gone_state → Targets gone_state → StateStands lay rom_of.cells spent' gone_state c
   goes_on_stands events targets = record {
     rom_is = rom_same ∙ h.rom_is;
-    actors = each_by (ActorStands lay s.store s.roll s.flight) (ActorStands lay store' s.roll flight') s.roll c.behaviours an_actor h.actors;
-    once = h.once;
-    front = h.front;
+    roll = record {
+      actors = each_by (ActorStands lay s.store s.roll s.flight) (ActorStands lay store' s.roll flight') s.roll c.behaviours an_actor h.roll.actors;
+      once = h.roll.once;
+      front = h.roll.front;
+    };
     messages = each_by (MessageStands lay s.store s.roll) (MessageStands lay store' s.roll) s.messages c.pending a_message h.messages;
     next_number = h.next_number;
     output = h.output;
-    flight = every_set (LaneStands lay store' s.roll c spent') s.flight i new
-        (every_both (λ (k : Lane). k.number ≡ l.number → ⊥) (LaneStands lay s.store s.roll c spent) (LaneStands lay store' s.roll c spent') other (remove s.flight i)
-        (others_numbers lay rom_of program spent s c ok h i l at) (every-removed (LaneStands lay s.store s.roll c spent) s.flight i h.flight))
-        itself;
-    events = events;
-    targets = targets;
+    flight = record {
+      events = every_set (LaneStands lay store' s.roll c spent') s.flight i new
+          (every_both (λ (k : Lane). k.number ≡ l.number → ⊥) (LaneStands lay s.store s.roll c spent) (LaneStands lay store' s.roll c spent') other (remove s.flight i)
+          (others_numbers lay rom_of program spent s c ok h i l at) (every-removed (LaneStands lay s.store s.roll c spent) s.flight i h.flight.events))
+          itself;
+      sound = events;
+      targets = targets;
+      room = let k = length-set s.flight i new in omega (arith, k, h.flight.room);
+      in_turn = λ one. every_set (IsFirst lay c) s.flight i new (every-removed (IsFirst lay c) s.flight i (h.flight.in_turn one)) (every-get (IsFirst lay c) s.flight i l (h.flight.in_turn one) at);
+    };
     root =
         subst (λ (rows : List Account). RootAlone rows s.out_of) (sym (plain-sheet (spend s.sheet l.own.sponsor due) l.own.sponsor s.store g.effect plain))
         (root_spends s.sheet s.out_of h.root l.own.sponsor due f.sponsor);
     code_out = keeps-code_out s.store s.sheet l g goes h.code_out;
-    room = let k = length-set s.flight i new in omega (arith, k, h.room);
-    in_turn = λ one. every_set (IsFirst lay c) s.flight i new (every-removed (IsFirst lay c) s.flight i (h.in_turn one)) (every-get (IsFirst lay c) s.flight i l (h.in_turn one) at);
   }

@@ -14,7 +14,7 @@ use Rattle.hum_code.specs.Opening.{Devices}
 use Rattle.hum_code.specs.Reaches.{Spent, Reaches, others}
 use Rattle.hum_code.proofs.Standing.{Longer, stands_later}
 use Rattle.hum_sim.specs.Spent.{Spending}
-use Rattle.hum_sim.specs.Standing.{first_to, Rests, AnswersStand, BehaviourStands, ActorStands, MessageStands, LaneStands}
+use Rattle.hum_sim.specs.Standing.{first_to, NoEventOf, AnswersStand, BehaviourStands, ActorStands, MessageStands, LaneStands}
 use Rattle.hum_sim.proofs.Pending.{Pending}
 use Rattle.hum_sim.proofs.Stores.{same_grows}
 
@@ -40,7 +40,7 @@ module _ (lay : Layout) (s t : Seen) (r r' : List W) (g : Grows s t) (h : Longer
   behaviour_later a code state (Answers v) p = (p.0, answers_later a code state v p.1)
 
   -- an actor whose quad is as it was
-  pub actor_later : (flight flight' : List Lane) (a : W) (b : Behaviour Tests) → slot_seen t a ≡ slot_seen s a → (Rests a flight' → Rests a flight)
+  pub actor_later : (flight flight' : List Lane) (a : W) (b : Behaviour Tests) → slot_seen t a ≡ slot_seen s a → (NoEventOf a flight' → NoEventOf a flight)
       → ActorStands lay s r flight a b → ActorStands lay t r' flight' a b
   actor_later flight flight' a b same rests x = record {
     code = x.code;
@@ -74,10 +74,12 @@ module _ (lay : Layout) (s t : Seen) (r r' : List W) (g : Grows s t) (h : Longer
     behaviour = f.behaviour;
     behaves = behaves;
     base = f.base;
-    rom_is = f.rom_is ∙ sym rom;
-    shown = f.shown;
-    answers = answers_base f.base l.own.actor l.own.code l.own.state f.behaviour f.answers;
-    value = stands_later lay f.base f.base r r' (same_grows f.base) h l.own.message f.message.value f.value;
+    begins = record {
+      rom_is = f.begins.rom_is ∙ sym rom;
+      shown = f.begins.shown;
+      answers = answers_base f.base l.own.actor l.own.code l.own.state f.behaviour f.begins.answers;
+      message = stands_later lay f.base f.base r r' (same_grows f.base) h l.own.message f.message.value f.begins.message;
+    };
     reached = subst (λ (n : Spent). Reaches f.base (begun l.number l.own) t l n) (sym spends) (others f.reached g);
     sponsor = f.sponsor;
     sent = f.sent;

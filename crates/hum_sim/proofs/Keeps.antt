@@ -35,11 +35,12 @@ use Rattle.hum_code.specs.Layout.{Layout}
 use Rattle.hum_code.specs.Stands.{DataStand}
 use Rattle.hum_code.specs.Reaches.{Spent, unspent, spent_more}
 use Rattle.hum_sim.specs.Program.{IsProgram}
-use Rattle.hum_sim.specs.Journal.{EndsAs, IsOut}
-use Rattle.hum_sim.specs.Spent.{Spending, with_spent, charged_spent, step_spent, go_spent, unless_spent as unless_spent_by, turn_spent}
+use Rattle.hum_sim.specs.Journal.{EndsAs, HasRunOut}
+use Rattle.hum_sim.specs.Spent.{Spending, with_spent, charged_spent, step_spent, go_spent, unless_spent as unless_spent_by, turn_spent, in_kind}
 use Rattle.hum_sim.specs.Standing.{first_to, ActorStands, LaneStands, RootAlone, IsFirst, StateStands}
-use Rattle.hum_sim.specs.Legal.{SpentWithin, IsInOrder, EntersLegally}
-use Rattle.hum_sim.specs.Next.{Next}
+use Rattle.hum_sim.specs.Legal.{IsItsTurn}
+use Rattle.hum_sim.specs.Within.{SpentWithin}
+use Rattle.hum_sim.proofs.Next.{EntersLegally, Next}
 use Rattle.hum_sim.proofs.Texts.{writes_same}
 use Rattle.hum_sim.proofs.Pending.{Pending, head_found, first_least, head_least}
 use Rattle.hum_sim.proofs.Stores.{Unborn}
@@ -49,7 +50,6 @@ use Rattle.hum_sim.proofs.Bounds.{delivers, next_within, now_within, spent_withi
 use Rattle.hum_sim.proofs.Choosing as choosing
 use Rattle.hum_sim.proofs.Dispatches as dispatches
 use Rattle.hum_sim.proofs.Dispatches.{Targets, printed_to}
-use Rattle.hum_sim.specs.Causes.{spent_of}
 use Rattle.hum_sim.proofs.Plain.{plain-sheet}
 use Rattle.hum_sim.proofs.Payments.{spent_due, nothing_spent, spent_in, spends_due, stops_free, removed_spent, set_spent, begun_spent, same_spent}
 use Rattle.hum_sim.proofs.GoesOn.{plain, goes_on_stands}
@@ -78,10 +78,13 @@ module _ (lay : Layout) (rom_of : RomImage) (program : IsProgram rom_of lay) {gr
   abbrev language : Language Tests
   language = tests_language lay.units
 
-  in_order : (p : Pending) → first_to p.target c.pending ≡ Some p → (s.lanes ≡ 1 → slice_get c.pending 0 ≡ Some p) → IsInOrder s.lanes c p
+  in_order : (p : Pending) → first_to p.target c.pending ≡ Some p → (s.lanes ≡ 1 → slice_get c.pending 0 ≡ Some p) → IsItsTurn s.lanes c p
   in_order p first turn =
       let rising = choosing.rising lay rom_of program spent s c ok h in
-      record { first = first_least 0 s.next_number p.target c.pending p rising first; in_turn = λ one. head_least 0 s.next_number c.pending p rising (turn one) }
+      record {
+        to_its_target = λ n q. let l = first_least 0 s.next_number p.target c.pending p rising first q.1 q.0 q.2 q.4 in let e = q.3 in omega (arith, l, e);
+        of_all = λ one n t q. let l = head_least 0 s.next_number c.pending p rising (turn one) q.1 q.0 q.2 in let e = q.3 in omega (arith, l, e);
+      }
 
   -- ---- an event's end
 
@@ -91,7 +94,7 @@ module _ (lay : Layout) (rom_of : RomImage) (program : IsProgram rom_of lay) {gr
 
     in_turn : s.lanes ≡ 1 → slice_get c.pending 0 ≡ Some f.message
     in_turn one =
-        let a = every-get (IsFirst lay c) s.flight i l (h.in_turn one) at in
+        let a = every-get (IsFirst lay c) s.flight i l (h.flight.in_turn one) at in
         a.1 ∙ (sym (head_found c.pending a.0 l.number a.1 a.2) ∙ f.pending)
 
     abbrev charge : Charge
@@ -114,11 +117,11 @@ module _ (lay : Layout) (rom_of : RomImage) (program : IsProgram rom_of lay) {gr
     abbrev sheet' : List Account
     sheet' = spend s.sheet l.own.sponsor charge
 
-    due_paid : (kind : Quota) → spent_in kind sheet' + spent_of kind (spent l.number) ≡ spent_in kind s.sheet + spent_of kind (spent_next l.number)
+    due_paid : (kind : Quota) → spent_in kind sheet' + in_kind kind (spent l.number) ≡ spent_in kind s.sheet + in_kind kind (spent_next l.number)
     due_paid kind =
         let a = spends_due s.sheet s.out_of h.root kind l.own.sponsor f.sponsor charge in
         let b = spent_due kind (spent l.number) charge in
-        let e = ap (spent_of kind) spent_here in
+        let e = ap (in_kind kind) spent_here in
         omega (arith, a, b, e)
 
     enters : (spent' : Spending) (end : Ending) (d : Configuration Tests) → Leads language c f.message end d
@@ -160,8 +163,8 @@ module _ (lay : Layout) (rom_of : RomImage) (program : IsProgram rom_of lay) {gr
     drops : (spent' : Spending) → ((k : ℕ) → (k ≡ l.number → ⊥) → spent' k ≡ spent k) → (end : End) (ending : Ending) (sheet : List Account) (out : Option Quota)
         → RootAlone sheet out → EndsAs end ending → Leads language c f.message ending (drop c f.message)
         → ((k : ℕ) (cost : Cost) → bound language (c, f.message) k ≡ Some cost → SpentWithin (spent' l.number) cost)
-        → ((kind : Quota) → spent_in kind sheet + spent_of kind (spent l.number) ≡ spent_in kind s.sheet + spent_of kind (spent' l.number))
-        → (IsOut ending → (kind : Quota) × (out ≡ Some kind))
+        → ((kind : Quota) → spent_in kind sheet + in_kind kind (spent l.number) ≡ spent_in kind s.sheet + in_kind kind (spent' l.number))
+        → (HasRunOut ending → (kind : Quota) × (out ≡ Some kind))
         → Events (record (finish s i l sheet no_effects end) { out_of = out })
         → Next lay rom_of.cells spent spent' s (record (finish s i l sheet no_effects end) { out_of = out }) c
     drops spent' spends end ending sheet out alone ends leads within costs outs events = record {
@@ -295,7 +298,7 @@ module _ (lay : Layout) (rom_of : RomImage) (program : IsProgram rom_of lay) {gr
         let same : spent' m.number ≡ unspent = rw (eq-eqb m.number m.number refl) refl in
         subst (λ (n : Spent). SpentWithin n cost) (sym same) (record { cycles = omega arith; memory = omega arith; events = omega arith })
 
-    ends_next : (end : End) (ending : Ending) (bytes : List ℕ) → EndsAs end ending → (IsOut ending → ⊥) → Leads language c p ending (printed_to lay rom_of program spent s c ok h running m chosen bytes)
+    ends_next : (end : End) (ending : Ending) (bytes : List ℕ) → EndsAs end ending → (HasRunOut ending → ⊥) → Leads language c p ending (printed_to lay rom_of program spent s c ok h running m chosen bytes)
         → Events (delivered s m.number end bytes) → Next lay rom_of.cells spent spent' s (delivered s m.number end bytes) c
     ends_next end ending bytes ends no_out leads events = record {
       configuration = printed_to lay rom_of program spent s c ok h running m chosen bytes;
@@ -316,7 +319,7 @@ module _ (lay : Layout) (rom_of : RomImage) (program : IsProgram rom_of lay) {gr
       paid = λ kind.
           let b = same_spent kind spent m.number s.flight (dispatches.others_numbers lay rom_of program spent s c ok h running m chosen) in
           let same : spent' m.number ≡ unspent = rw (eq-eqb m.number m.number refl) refl in
-          let e = ap (spent_of kind) same ∙ nothing_spent kind in
+          let e = ap (in_kind kind) same ∙ nothing_spent kind in
           omega (arith, b, e);
     }
 
@@ -373,5 +376,5 @@ module _ (lay : Layout) (rom_of : RomImage) (program : IsProgram rom_of lay) {gr
 
   pub turn_next : (pick : ℕ) → Next lay rom_of.cells spent (turn_spent spent s pick) s (turn s pick).0 c
   turn_next pick =
-      let sound = turn-flight s ok h.events pick in
+      let sound = turn-flight s ok h.flight.sound pick in
       unless_next pick s.out_of refl (record { sound = sound; targets = flight-actors (turn s pick).0 (turn-sound grant s ok pick) sound })

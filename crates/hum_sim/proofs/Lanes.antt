@@ -101,7 +101,7 @@ module _ (lay : Layout) (rom_of : RomImage) (program : IsProgram rom_of lay) {gr
   -- ---- the roll
 
   pub as_many : length s.roll ≡ length c.behaviours
-  as_many = lengths s.roll c.behaviours h.actors
+  as_many = lengths s.roll c.behaviours h.roll.actors
     where
       lengths : (xs : List W) (ys : List (Behaviour Tests)) → Each (ActorStands lay s.store s.roll s.flight) xs ys → length xs ≡ length ys
       lengths [] [] e = refl
@@ -113,7 +113,7 @@ module _ (lay : Layout) (rom_of : RomImage) (program : IsProgram rom_of lay) {gr
   IsActor w = (code : W) × (state : W) × (mark : W) × (slot_seen s.store w ≡ Some (ActorSlot code state mark))
 
   pub roll_actors : Every IsActor s.roll
-  roll_actors = each_left (ActorStands lay s.store s.roll s.flight) IsActor (λ w b x. (x.code, x.state, x.mark, x.there)) s.roll c.behaviours h.actors
+  roll_actors = each_left (ActorStands lay s.store s.roll s.flight) IsActor (λ w b x. (x.code, x.state, x.mark, x.there)) s.roll c.behaviours h.roll.actors
 
   pub is_actor : (w : W) → Among w s.roll → IsActor w
   is_actor w a = every_among IsActor s.roll w roll_actors a
@@ -121,11 +121,11 @@ module _ (lay : Layout) (rom_of : RomImage) (program : IsProgram rom_of lay) {gr
   -- ---- an event in flight
 
   pub all_stand : Every (StandsIn s.store) s.flight
-  all_stand = h.events.stands
+  all_stand = h.flight.sound.stands
 
   module _ (i : ℕ) (l : Lane) (at : slice_get s.flight i ≡ Some l) where
     pub lane_stands : LaneStands lay s.store s.roll c spent l
-    lane_stands = every-get (LaneStands lay s.store s.roll c spent) s.flight i l h.flight at
+    lane_stands = every-get (LaneStands lay s.store s.roll c spent) s.flight i l h.flight.events at
 
     pub lane_in : StandsIn s.store l
     lane_in = every-get (StandsIn s.store) s.flight i l all_stand at
@@ -144,13 +144,13 @@ module _ (lay : Layout) (rom_of : RomImage) (program : IsProgram rom_of lay) {gr
 
     -- what it created is named once, and is not on the roll
     pub created_once : (w : W) → times w (created_by l) ≤ 1
-    created_once w = let a = sum-at (λ (k : Lane). times w (created_by k)) s.flight i l at in let o = h.events.created_once w in omega (arith, a, o)
+    created_once w = let a = sum-at (λ (k : Lane). times w (created_by k)) s.flight i l at in let o = h.flight.sound.created_once w in omega (arith, a, o)
 
     pub not_on_roll : (w : W) → Among w s.roll → Among w (created_by l) → ⊥
     not_on_roll w a b = let x = is_actor w a in let y = lane_in.unborn w b in let z = x.3 in absurd cc
 
     pub names_once : (w : W) → times w (s.roll ++ created_by l) ≤ 1
-    names_once = both_once s.roll (created_by l) h.once created_once not_on_roll
+    names_once = both_once s.roll (created_by l) h.roll.once created_once not_on_roll
 
     pub names_distinct : Distinct (roll_with s.roll l.effects)
     names_distinct = distinct_by (s.roll ++ created_by l) names_once
@@ -164,7 +164,7 @@ module _ (lay : Layout) (rom_of : RomImage) (program : IsProgram rom_of lay) {gr
     setting = record { base = f.base; own = l.own; roll = s.roll }
 
     abbrev pub emission : Emission
-    emission = record { setting = setting; layout = lay; code = program.code setting (f.rom_is ∙ h.rom_is); self = f.message.target; self_is = f.actor_is; actor_is = f.shown }
+    emission = record { setting = setting; layout = lay; code = program.code setting (f.begins.rom_is ∙ h.rom_is); self = f.message.target; self_is = f.actor_is; actor_is = f.begins.shown }
 
     -- what its delivery comes to
     abbrev pub out_by : Value Tests → ℕ → DeliveryOutcome
@@ -174,10 +174,10 @@ module _ (lay : Layout) (rom_of : RomImage) (program : IsProgram rom_of lay) {gr
     out_of = out_by f.behaviour
 
     pub follows : FollowsDelivery emission out_of
-    follows = by f.behaviour f.answers
+    follows = by f.behaviour f.begins.answers
       where
         by : (v : Value Tests) → AnswersStand lay f.base s.roll l.own.actor l.own.code l.own.state v → FollowsDelivery emission (out_by v)
-        by v (inl p) = events_follow emission v f.message.value p.0 p.1 f.value
+        by v (inl p) = events_follow emission v f.message.value p.0 p.1 f.begins.message
         by v (inr p) =
             subst (λ (x : Value Tests). FollowsDelivery emission (out_by x)) (sym p.3)
             (openings_follow emission f.message.value p.1 (record { devices = p.2; file = program.file; shape = program.shape }))

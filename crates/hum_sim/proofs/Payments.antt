@@ -12,9 +12,8 @@ use Rattle.vm_turn.specs.State.{root}
 use Rattle.vm_turn.proofs.Sums.{sum-removed, sum-set}
 use Rattle.hum_code.specs.Reaches.{Spent, unspent, spent_more}
 use Rattle.cap_words.specs.Words.{W}
-use Rattle.hum_sim.specs.Spent.{Spending, with_spent}
+use Rattle.hum_sim.specs.Spent.{Spending, with_spent, in_kind, spent_in_flight}
 use Rattle.hum_sim.specs.Standing.{RootAlone}
-use Rattle.hum_sim.specs.Causes.{spent_of, spent_by}
 use Rattle.hum_sim.proofs.Root.{spent_account, stopped_account}
 
 -- what is due of a kind
@@ -23,12 +22,12 @@ due_of Memory c = c.quads
 due_of Events c = c.events
 due_of Cycles c = 1
 
-pub spent_due : (kind : Quota) (n : Spent) (c : Charge) → spent_of kind (spent_more n c) ≡ spent_of kind n + due_of kind c
+pub spent_due : (kind : Quota) (n : Spent) (c : Charge) → in_kind kind (spent_more n c) ≡ in_kind kind n + due_of kind c
 spent_due Memory n c = omega arith
 spent_due Events n c = omega arith
 spent_due Cycles n c = omega arith
 
-pub nothing_spent : (kind : Quota) → spent_of kind unspent ≡ 0
+pub nothing_spent : (kind : Quota) → in_kind kind unspent ≡ 0
 nothing_spent Memory = refl
 nothing_spent Events = refl
 nothing_spent Cycles = refl
@@ -63,12 +62,12 @@ module _ (sheet : List Account) (out : Option Quota) (r : RootAlone sheet out) (
 
 module _ (kind : Quota) where
   abbrev of : Spending → Lane → ℕ
-  of spent l = spent_of kind (spent l.number)
+  of spent l = in_kind kind (spent l.number)
 
-  others_same : (spent spent' : Spending) (n : ℕ) (ls : List Lane) → ((k : ℕ) → (k ≡ n → ⊥) → spent' k ≡ spent k) → Every (λ (k : Lane). k.number ≡ n → ⊥) ls → spent_by kind spent' ls ≡ spent_by kind spent ls
+  others_same : (spent spent' : Spending) (n : ℕ) (ls : List Lane) → ((k : ℕ) → (k ≡ n → ⊥) → spent' k ≡ spent k) → Every (λ (k : Lane). k.number ≡ n → ⊥) ls → spent_in_flight kind spent' ls ≡ spent_in_flight kind spent ls
   others_same spent spent' n [] f e = refl
   others_same spent spent' n (k ∷ ls) f e =
-      let a = ap (spent_of kind) (f k.number e.0) in
+      let a = ap (in_kind kind) (f k.number e.0) in
       let b = others_same spent spent' n ls f e.1 in
       let p = sum_by-cons (of spent') k ls in
       let q = sum_by-cons (of spent) k ls in
@@ -77,30 +76,30 @@ module _ (kind : Quota) where
   module _ (spent spent' : Spending) (ls : List Lane) (i : ℕ) (l : Lane) (at : slice_get ls i ≡ Some l) (spends : (k : ℕ) → (k ≡ l.number → ⊥) → spent' k ≡ spent k)
       (others : Every (λ (k : Lane). k.number ≡ l.number → ⊥) (remove ls i)) where
     -- one ends
-    pub removed_spent : spent_by kind spent' (remove ls i) + of spent l ≡ spent_by kind spent ls
+    pub removed_spent : spent_in_flight kind spent' (remove ls i) + of spent l ≡ spent_in_flight kind spent ls
     removed_spent =
         let a = others_same spent spent' l.number (remove ls i) spends others in
         let b = sum-removed (of spent) ls i l at in
         omega (arith, a, b)
 
     -- one goes on
-    pub set_spent : (new : Lane) → new.number ≡ l.number → spent_by kind spent' (slice_set ls i new) + of spent l ≡ spent_by kind spent ls + of spent' l
+    pub set_spent : (new : Lane) → new.number ≡ l.number → spent_in_flight kind spent' (slice_set ls i new) + of spent l ≡ spent_in_flight kind spent ls + of spent' l
     set_spent new e =
         let a = removed_spent in
         let b = sum-removed (of spent') ls i l at in
         let c = sum-set (of spent') ls i l new at in
-        let d : of spent' new ≡ of spent' l = ap (λ (n : ℕ). spent_of kind (spent' n)) e in
+        let d : of spent' new ≡ of spent' l = ap (λ (n : ℕ). in_kind kind (spent' n)) e in
         omega (arith, a, b, c, d)
 
   -- one begins
   pub begun_spent : (spent : Spending) (n : ℕ) (ls : List Lane) (new : Lane) → Every (λ (k : Lane). k.number ≡ n → ⊥) ls → new.number ≡ n
-      → spent_by kind (with_spent spent n unspent) (ls ++ new ∷ []) ≡ spent_by kind spent ls
+      → spent_in_flight kind (with_spent spent n unspent) (ls ++ new ∷ []) ≡ spent_in_flight kind spent ls
   begun_spent spent n ls new others e =
       let a = others_same spent (with_spent spent n unspent) n ls (λ k d. rw (ne_eqb k n d) refl) others in
       let b = sum_by_push (of (with_spent spent n unspent)) ls new in
-      let c : of (with_spent spent n unspent) new ≡ 0 = ap (λ (k : ℕ). spent_of kind (with_spent spent n unspent k)) e ∙ (let x : with_spent spent n unspent n ≡ unspent = rw (eq-eqb n n refl) refl in ap (spent_of kind) x ∙ nothing_spent kind) in
+      let c : of (with_spent spent n unspent) new ≡ 0 = ap (λ (k : ℕ). in_kind kind (with_spent spent n unspent k)) e ∙ (let x : with_spent spent n unspent n ≡ unspent = rw (eq-eqb n n refl) refl in ap (in_kind kind) x ∙ nothing_spent kind) in
       omega (arith, a, b, c)
 
   -- none does
-  pub same_spent : (spent : Spending) (n : ℕ) (ls : List Lane) → Every (λ (k : Lane). k.number ≡ n → ⊥) ls → spent_by kind (with_spent spent n unspent) ls ≡ spent_by kind spent ls
+  pub same_spent : (spent : Spending) (n : ℕ) (ls : List Lane) → Every (λ (k : Lane). k.number ≡ n → ⊥) ls → spent_in_flight kind (with_spent spent n unspent) ls ≡ spent_in_flight kind spent ls
   same_spent spent n ls others = others_same spent (with_spent spent n unspent) n ls (λ k d. rw (ne_eqb k n d) refl) others

@@ -1,6 +1,7 @@
 -- The machine's journal, as a journal of deliveries.
-use Rattle.std.specs.Prelude.{◌≡◌, pos}
+use Rattle.std.specs.Prelude.{◌≡◌, pos, List}
 use Rattle.cap_words.specs.Words.{Fix}
+use Rattle.instr_table.specs.Reach.{Every}
 use Rattle.vm_turn.specs.declared.journal.Entry.{Entry}
 use Rattle.vm_turn.specs.declared.journal.Outcome.{Outcome as End}
 use Rattle.vm_turn.specs.declared.journal.Outcome.TheVariants.{Committed, Failed, RanOut}
@@ -14,12 +15,17 @@ EndsAs (Failed w) (FailsWith code) = w ≡ Fix (pos code)
 EndsAs (RanOut kind) RunsOut = Unit {0}
 EndsAs _ _ = ⊥
 
+-- an entry of the machine's journal is that of a delivery: of the same message, with the same end
 pub record EntryAs (e : Entry) (d : after.Entry) : Type 0 where
   pub message : e.message ≡ d.message
   pub ending : EndsAs e.outcome d.ending
 
--- an event ran out
-abbrev pub IsOut : Ending → Type 0
-IsOut Commits = ⊥
-IsOut (FailsWith code) = ⊥
-IsOut RunsOut = Unit {0}
+-- the event ran out of what it was granted, so that its delivery came to no end of its own
+abbrev pub HasRunOut : Ending → Type 0
+HasRunOut Commits = ⊥
+HasRunOut (FailsWith code) = ⊥
+HasRunOut RunsOut = Unit {0}
+
+-- each of these events committed, or failed with a code
+abbrev pub AreDecided : List after.Entry → Type 0
+AreDecided journal = Every (λ (e : after.Entry). HasRunOut e.ending → ⊥) journal

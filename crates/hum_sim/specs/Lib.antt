@@ -3,11 +3,9 @@ pub mod Journal
 pub mod Spent
 pub mod Standing
 pub mod Legal
-pub mod Causes
-pub mod Next
-pub mod Order
-pub mod Written
+pub mod Within
+pub mod File
+pub mod Turns
+pub mod Runs
+pub mod OneLane
 pub mod Emitted
-pub mod Laws
-pub mod Complete
-pub mod Headline

@@ -1,19 +1,30 @@
--- What a turn makes of what a state stands for.
+-- What a turn makes of what a state stands for, in the program's own language.
 use Rattle.std.specs.Prelude.{◌≡◌, ◌⊎◌, ℕ, ◌+◌, List, [], ◌∷◌, ◌++◌, Some}
 use Rattle.std.proofs.Common.{inl, inr}
 use Rattle.instr_table.specs.declared.charge.Quota.{Quota}
-use Rattle.hum_sim.specs.Causes.{spent_of, spent_by, root_spent}
 use Rattle.cap_words.specs.declared.word.Quad.{Quad}
 use Rattle.vm_turn.specs.declared.journal.Entry.{Entry}
 use Rattle.vm_turn.specs.State.{State}
+use Rattle.hum_meaning.specs.Value.{Parts}
+use Rattle.hum_meaning.specs.Language.{Language}
 use Rattle.hum_meaning.specs.Deliver.{Configuration}
 use Rattle.hum_meaning.specs.After as after
+use Rattle.hum_meaning.specs.After.{Enters}
+use Rattle.hum_core.specs.Bound.{Cost, bound}
 use Rattle.hum_core.specs.TestLists.{Tests, tests_language}
 use Rattle.hum_code.specs.Layout.{Layout}
-use Rattle.hum_sim.specs.Spent.{Spending}
-use Rattle.hum_sim.specs.Journal.{EntryAs, IsOut}
+use Rattle.hum_code.specs.Reaches.{Spent}
+use Rattle.hum_sim.specs.Spent.{Spending, in_kind, spent_in_flight, spent_by_root}
+use Rattle.hum_sim.specs.Journal.{EntryAs, HasRunOut}
 use Rattle.hum_sim.specs.Standing.{StateStands}
-use Rattle.hum_sim.specs.Legal.{EntersLegally}
+use Rattle.hum_sim.specs.Legal.{IsItsTurn}
+use Rattle.hum_sim.specs.Within.{SpentWithin, IsWithin}
+
+-- an entry ends a pending message whose turn it is, and its event spent no more than the delivery's bound
+pub record EntersLegally {L : Parts} (language : Language L) (lanes : ℕ) (spent : Spent) (c : Configuration L) (e : after.Entry) (d : Configuration L) : Type 0 where
+  pub enters : Enters language c e d
+  pub in_order : IsItsTurn lanes c enters.message
+  pub within : IsWithin language (c, enters.message) spent
 
 -- an entry is added, and the configuration is the one that it makes
 pub record Entered (lay : Layout) (spent : Spending) (s t : State) (c d : Configuration Tests) : Type 0 where
@@ -23,12 +34,12 @@ pub record Entered (lay : Layout) (spent : Spending) (s t : State) (c d : Config
   pub same : EntryAs entry delivery
   pub enters : EntersLegally (tests_language lay.units) s.lanes (spent entry.message) c delivery d
   -- an event runs out only where the root does
-  pub out : IsOut delivery.ending → (kind : Quota) × (t.out_of ≡ Some kind)
+  pub out : HasRunOut delivery.ending → (kind : Quota) × (t.out_of ≡ Some kind)
 
 -- what the event of an added entry spent
 abbrev pub added_spent : {A : Type 0} {lay : Layout} {spent : Spending} {s t : State} {c d : Configuration Tests} → Quota → A ⊎ Entered lay spent s t c d → ℕ
 added_spent kind (inl a) = 0
-added_spent {spent = spent} kind (inr e) = spent_of kind (spent e.entry.message)
+added_spent {spent = spent} kind (inr e) = in_kind kind (spent e.entry.message)
 
 -- the next state stands for the same configuration, or for the one that the entry makes of it that the turn adds
 pub record Next (lay : Layout) (rom : List Quad) (before spent : Spending) (s t : State) (c : Configuration Tests) : Type 0 where
@@ -37,4 +48,4 @@ pub record Next (lay : Layout) (rom : List Quad) (before spent : Spending) (s t 
   pub lanes : t.lanes ≡ s.lanes
   pub step : ((t.journal ≡ s.journal) × (configuration ≡ c)) ⊎ Entered lay spent s t c configuration
   -- what the root spends more, an event in flight does, or one that ends had spent
-  pub paid : (kind : Quota) → root_spent kind t + spent_by kind before s.flight ≡ root_spent kind s + spent_by kind spent t.flight + added_spent kind step
+  pub paid : (kind : Quota) → spent_by_root kind t + spent_in_flight kind before s.flight ≡ spent_by_root kind s + spent_in_flight kind spent t.flight + added_spent kind step
