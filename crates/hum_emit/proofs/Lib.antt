@@ -21,11 +21,13 @@ pub mod ShapeBlocks
 pub mod ShapePatterns
 pub mod ShapeTrees
 pub mod ShapeFiles
+pub mod PlainCode
 pub mod Fair
 pub mod FairData
 pub mod FairTrees
 pub mod FairUnits
 pub mod FairStart
+pub mod PlainImages
 pub mod Backwards
 pub mod Symbols
 pub mod Linking

@@ -1,7 +1,7 @@
 //! What is so of emitted code.
 
-ghost use Rattle.hum_emit.specs.Compiled.{CompiledCodeMeans, ProgramsLink, LabelsArePlaces};
-ghost use Rattle.hum_emit.specs.Laws.{LinkedHolds, EmittedCodeStands, ShapesOfProgramsFit, EmissionsAreMade, EmissionsAreUsed};
+ghost use Rattle.hum_emit.specs.Compiled.{CompiledImagesHold, ProgramsLink, LabelsArePlaces};
+ghost use Rattle.hum_emit.specs.Laws.{LinkedHolds, EmittedCodeStands, ShapesOfProgramsFit, EmissionsAreMade};
 
 /// A store with the cells that the module of an emission links to holds each instruction and each datum at its place, and the boot word
 /// is the place of the instruction that was made last.
@@ -27,18 +27,12 @@ pub fn emissions_are_made()
     ensures { EmissionsAreMade }
 {}
 
-/// What is emitted of a program's units has no operation of dictionaries, deques or sponsors, and of those of actors only to send, to create
+/// The image that a program's module links to holds the program: in each store with its cells the code stands for the program, which does
+/// what the program means by the laws of `hum_code`; the boot word is the place of the first event's code, which runs the file; and each cell
+/// that spells an operation spells one of programs, none of dictionaries, deques or sponsors, and of those of actors only to send, to create
 /// and to become.
-pub fn emissions_have_few_operations()
-    ensures { EmissionsAreUsed }
-{}
-
-/// In each store that has the cells that a program's module links to, the boot word is the place of the first event's code, and each event
-/// does what the program means, whatever others do between its instructions: it commits only where its delivery is decided as committed, with
-/// a record that stands for what was gathered; it fails only where its delivery is decided as failed, with its code; and where s steps decide
-/// its delivery, it ends so or goes on, within the bound at each of its instructions.
-pub fn compiled_code_means_the_program()
-    ensures { CompiledCodeMeans }
+pub fn compiled_images_hold_their_programs()
+    ensures { CompiledImagesHold }
 {}
 
 /// The module of a program links, but where it has more instructions and data than an image has room for.

@@ -122,7 +122,7 @@ fn few(count: usize) -> Result<(), AllocError>
     Ok(())
 }
 
-/// The module of a program, whose code does what the program means: `compiled_code_means_the_program`. Only want of memory is an error, which
+/// The module of a program, whose image holds the program: `compiled_images_hold_their_programs`. Only want of memory is an error, which
 /// 2^32 instructions or data are too.
 pub fn emit(alloc: Global, program: &Program) -> Result<Module, AllocError>
     requires { shaped.ShapesFit program.now.units (shaped.shapes_of program.now.units) }
