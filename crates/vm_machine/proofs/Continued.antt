@@ -96,7 +96,7 @@ follows-on p q boot seed d n next a before after e grant t done h = subst (Follo
         h.turns_are
 
 -- a turn that is not completed changes nothing
-resting : (s : State) (pick : ℕ) (o : Option Quota) (a : Answer) (t : State) → s.out_of ≡ o → unless_out o (not_rest a) ≡ false → a ≡ (turn s pick).1 → Changes s a t → t ≡ (turn s pick).0 → t ≡ s
+resting : (s : State) (pick : ℕ) (o : Option Quota) (a : Answer) (t : State) → s.out_of ≡ o → unless_out o (not_rest a) ≡ false → a ≡ (turn s pick).1 → Changes s pick a t → t ≡ (turn s pick).0 → t ≡ s
 resting s pick (Some kind) a t out idle e c f = f ∙ ap (λ (x : Option Quota). (unless_spent s pick x).0) out
 resting s pick None Dispatched t out idle e c f = cc
 resting s pick None Stepped t out idle e c f = cc

@@ -16,6 +16,7 @@ pub mod Rights
 pub mod Changed
 pub mod Runs
 pub mod Started
+pub mod Actors
 pub mod FlightActors
 pub mod Commits
 pub mod Order

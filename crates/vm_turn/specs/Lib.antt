@@ -4,6 +4,7 @@ pub mod Actors
 pub mod Piece
 pub mod Turn
 pub mod Run
+pub mod Spending
 pub mod Sound
 pub mod Laws
 pub mod Changes

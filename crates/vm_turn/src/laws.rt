@@ -38,12 +38,13 @@ pub fn others_wait()
     ensures { OthersWait }
 {}
 
-/// What a turn changes is told by its answer. An event begins where a lane is free, with the first message that can go. An instruction that
-/// goes on changes its own lane, new quads and the sheet. An event that fails or runs out adds its entry, ends its message and makes its
-/// actor idle with the behaviour that it had: no other behaviour, and no roll, output or other message changes. An event that runs out also
-/// stops its sponsor, whose prepared signal becomes a message. Bytes are written by a device alone, for the first message that can go, and
-/// they are its piece; one that it refuses fails with 8. At rest nothing is in flight and no message can be dispatched. The root's running
-/// out ends the run.
+/// What a turn changes is told by its answer. An event begins where a lane is free, with the first message that can go. Else the event that
+/// the pick chooses takes its next instruction, whose charge its sponsor can pay, and goes on, commits or fails as that row of the table says.
+/// One that goes on changes its own lane, new quads and the sheet. One that fails or runs out adds its entry, ends its message and makes its
+/// actor idle with the behaviour that it had: no other behaviour, and no roll, output or other message changes. One runs out where its sponsor
+/// is short of the charge that is due; it is not charged, and its sponsor is stopped, whose prepared signal becomes a message. Bytes are written
+/// by a device alone, for the first message that can go, and they are its piece; one that it refuses fails with 8. At rest nothing is in flight
+/// and no message can be dispatched. The root's running out ends the run.
 pub fn turns_change()
     ensures { TurnsChange }
 {}
