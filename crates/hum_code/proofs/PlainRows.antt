@@ -21,7 +21,8 @@ use Rattle.instr_table.specs.Lane.{Lane, begun, values, lane_row}
 use Rattle.instr_table.specs.Reach.{Every}
 use Rattle.instr_table.proofs.GotWords.{every-append}
 use Rattle.instr_table.proofs.ShownWords.{shown-stays}
-use Rattle.hum_code.specs.Reaches.{Spent, Reaches, dispatched, others, stepped}
+use Rattle.instr_table.specs.Spent.{Spent}
+use Rattle.hum_code.specs.Reaches.{Reaches, dispatched, others, stepped}
 use Rattle.hum_code.specs.Program.{IsPlainOp, PlainCells}
 use Rattle.hum_code.proofs.World.{same, later, fetched_later}
 

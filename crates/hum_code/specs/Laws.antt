@@ -14,7 +14,8 @@ use Rattle.hum_meaning.specs.Deliver.{respond}
 use Rattle.hum_core.specs.Numbered.{Opening}
 use Rattle.hum_core.specs.TestLists.{Tests, tests_language}
 use Rattle.hum_code.specs.Comes.{Setting}
-use Rattle.hum_code.specs.Reaches.{Spent, Reaches}
+use Rattle.instr_table.specs.Spent.{Spent}
+use Rattle.hum_code.specs.Reaches.{Reaches}
 use Rattle.hum_code.specs.Layout.{Layout}
 use Rattle.hum_code.specs.Stands.{Stands, StandsEnv}
 use Rattle.hum_code.specs.Emission.{Emission}

@@ -23,7 +23,7 @@ each_append R (x ∷ xs) us (y ∷ ys) vs h k = (h.0, each_append R xs us ys vs 
 each_append R [] us (y ∷ ys) vs h k = absurd h
 each_append R (x ∷ xs) us [] vs h k = absurd h
 
-each_at : {A B : Type 0} (R : A → B → Type 0) (xs : List A) (ys : List B) (n : ℕ) → Each R xs ys → Both R (slice_get xs n) (slice_get ys n)
+pub each_at : {A B : Type 0} (R : A → B → Type 0) (xs : List A) (ys : List B) (n : ℕ) → Each R xs ys → Both R (slice_get xs n) (slice_get ys n)
 each_at R [] [] n h = tt
 each_at R (x ∷ xs) (y ∷ ys) zero h = h.0
 each_at R (x ∷ xs) (y ∷ ys) (suc n) h = each_at R xs ys n h.1

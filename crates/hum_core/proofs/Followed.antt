@@ -10,6 +10,17 @@ use Rattle.hum_core.specs.Configurations.{MessageAs, ConfigurationAs, DeliveryAs
 use Rattle.hum_core.specs.Journals.{JournalsAlike}
 use Rattle.hum_core.proofs.Delivered.{without_as}
 
+-- ---- what is there
+
+-- where the one is there the other is, and stands in the relation
+pub the_other : {A B : Type 0} (R : A → B → Type 0) (a : A) (o : Option B) → Both R (Some a) o → (b : B) × (o ≡ Some b) × R a b
+the_other R a (Some b) h = (b, refl, h)
+the_other R a None h = absurd h
+
+pub the_one : {A B : Type 0} (R : A → B → Type 0) (b : B) (o : Option A) → Both R o (Some b) → (a : A) × (o ≡ Some a) × R a b
+the_one R b (Some a) h = (a, refl, h)
+the_one R b None h = absurd h
+
 module _ {L K : Parts} (r : Reading L K) where
   -- ---- the message of a number
 
@@ -18,7 +29,7 @@ module _ {L K : Parts} (r : Reading L K) where
   found_or true m m' o o' h k = h
   found_or false m m' o o' h k = k
 
-  message_as : (n : ℕ) (ms : List (Message L)) (ms' : List (Message K)) → Each (MessageAs r) ms ms'
+  pub message_as : (n : ℕ) (ms : List (Message L)) (ms' : List (Message K)) → Each (MessageAs r) ms ms'
       → Both (MessageAs r) (message_of n ms) (message_of n ms')
   message_as n [] [] h = tt
   message_as n (m ∷ ms) (m' ∷ ms') h =
@@ -26,14 +37,6 @@ module _ {L K : Parts} (r : Reading L K) where
       (found_or (nat_eq m.number n) m m' (message_of n ms) (message_of n ms') h.0 (message_as n ms ms' h.1))
   message_as n [] (m' ∷ ms') h = absurd h
   message_as n (m ∷ ms) [] h = absurd h
-
-  the_other : (m : Message L) (o : Option (Message K)) → Both (MessageAs r) (Some m) o → (m' : Message K) × (o ≡ Some m') × MessageAs r m m'
-  the_other m (Some m') h = (m', refl, h)
-  the_other m None h = absurd h
-
-  the_one : (m' : Message K) (o : Option (Message L)) → Both (MessageAs r) o (Some m') → (m : Message L) × (o ≡ Some m) × MessageAs r m m'
-  the_one m' (Some m) h = (m, refl, h)
-  the_one m' None h = absurd h
 
   -- ---- the end of a delivery
 
@@ -91,13 +94,13 @@ module _ {L K : Parts} (r : Reading L K) where
 
     enters_forth : (e : Entry) (c' : Configuration L) → Enters l c e c' → (d' : Configuration K) × Enters k d e d' × ConfigurationAs r c' d'
     enters_forth e c' x =
-        let other = the_other x.message _ (subst (λ o. Both (MessageAs r) o (message_of e.message d.pending)) x.pending (message_as e.message c.pending d.pending h.pending)) in
+        let other = the_other (MessageAs r) x.message _ (subst (λ o. Both (MessageAs r) o (message_of e.message d.pending)) x.pending (message_as e.message c.pending d.pending h.pending)) in
         let y = leads_forth x.message other.0 other.2 e.ending c' x.leads in
         (y.0, record { message = other.0; pending = other.1; leads = y.1 }, y.2)
 
     enters_back : (e : Entry) (d' : Configuration K) → Enters k d e d' → (c' : Configuration L) × Enters l c e c' × ConfigurationAs r c' d'
     enters_back e d' x =
-        let one = the_one x.message _ (subst (λ o. Both (MessageAs r) (message_of e.message c.pending) o) x.pending (message_as e.message c.pending d.pending h.pending)) in
+        let one = the_one (MessageAs r) x.message _ (subst (λ o. Both (MessageAs r) (message_of e.message c.pending) o) x.pending (message_as e.message c.pending d.pending h.pending)) in
         let y = leads_back one.0 x.message one.2 e.ending d' x.leads in
         (y.0, record { message = one.0; pending = one.1; leads = y.1 }, y.2)
 

@@ -26,5 +26,8 @@ pub mod BoundNames
 pub mod ScopedBlocks
 pub mod ScopedTrees
 pub mod ScopedFiles
+pub mod Likenesses
+pub mod Through
+pub mod Programs
 mod Examples
 mod BoundExamples

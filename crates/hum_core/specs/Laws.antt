@@ -102,11 +102,11 @@ pub record DeliveriesAreCounted (units : List CoreUnit) (tested : List TestUnit)
 abbrev pub BoundsCountStepsAndSends : Type 0
 BoundsCountStepsAndSends = (units : List CoreUnit) (tested : List TestUnit) → DeliveriesAreCounted units tested
 
--- in the outermost scope a file stands for unit 0 of what it becomes, and `\_.[ file ]` for the first actor's behaviour
-pub record FileStands (file : List Stmt) : Type 0 where
-  pub body : (Resolution (resolved file)).BodyAs (scope_of (outermost written)) file 0
-  pub opening : (Resolution (resolved file)).AbstractionAs (scope_of (outermost written)) (pat.Any, expr.Block file) Opening
+-- in the outermost scope a file stands for unit 0 of these units, and `\_.[ file ]` for the first actor's behaviour
+pub record FileStands (file : List Stmt) (units : List CoreUnit) : Type 0 where
+  pub body : (Resolution units).BodyAs (scope_of (outermost written)) file 0
+  pub opening : (Resolution units).AbstractionAs (scope_of (outermost written)) (pat.Any, expr.Block file) Opening
 
--- so does each file in which no name is refused
+-- each file in which no name is refused stands so for the units that it becomes
 abbrev pub ScopedFilesStand : Type 0
-ScopedFilesStand = (file : List Stmt) → Scoped file → FileStands file
+ScopedFilesStand = (file : List Stmt) → Scoped file → FileStands file (resolved file)

@@ -1,6 +1,7 @@
 // What is so of the numbered languages.
 
 ghost use Rattle.hum_core.specs.Laws.{ResolvedDecisionsStay, TestedDecisionsStay, ResolvedTreesMeanTheSame, LoweredTreesMeanTheSame, FormedTreesStand, ProgramsBeginAlike, ResolvedTreesAreFormed, BoundsAreTheSame, BoundsCountStepsAndSends, ScopedFilesStand};
+ghost use Rattle.hum_core.specs.Programs.{ProgramsMeanTheirFiles};
 
 /// A written tree means what the numbered one does that it stands for: for environments that are alike and every number of steps the outcomes
 /// of evaluation, matching and execution are alike, failures and undecided ones included, with as many steps left. So messages are delivered
@@ -56,4 +57,12 @@ pub fn bounds_are_the_same()
 /// was gathered.
 pub fn bounds_count_steps_and_sends()
     ensures { BoundsCountStepsAndSends }
+{}
+
+/// The program of each formed file in which no name is refused means what the file means. The two begin alike; what is alike has the same
+/// output, numbers of actors and messages, and targets; what s steps decide of a delivery, or bound, at most s steps decide the same way after
+/// it, or bound by no more; and what is decided or bounded after it is so before it, by some number of steps. A journal leads to
+/// configurations that are alike, in both directions.
+pub fn programs_mean_their_files()
+    ensures { ProgramsMeanTheirFiles }
 {}

@@ -1,4 +1,5 @@
 -- The message that is dispatched is the first pending one to its target.
+use Rattle.vm_turn.specs.Spending.{Spending}
 use Rattle.std.proofs.Common.{◌≡◌, ◌⊎◌, inl, inr, refl, ap, sym, subst, ◌∙◌, ℕ, suc, ◌≤◌, Bool, true, false, List, [], ◌∷◌, Option, Some, None, slice_get, nat_eq, arith}
 use Rattle.std.specs.Prelude.{◌&&◌, not}
 use Rattle.std.proofs.lemmas.Option.{same_Some}
@@ -22,8 +23,7 @@ use Rattle.hum_meaning.specs.After.{message_of}
 use Rattle.hum_meaning.specs.Sound.{Rising}
 use Rattle.hum_core.specs.TestLists.{Tests}
 use Rattle.hum_code.specs.Layout.{Layout}
-use Rattle.hum_sim.specs.Program.{IsProgram}
-use Rattle.hum_sim.specs.Spent.{Spending}
+use Rattle.hum_code.specs.Program.{HoldsProgram}
 use Rattle.hum_sim.specs.Standing.{first_to, NoEventOf, ActorStands, MessageStands, StateStands}
 use Rattle.hum_sim.proofs.Lists.{tested, none_inside, each_at, each_from, one_there}
 use Rattle.hum_sim.proofs.Pending.{Pending, rising_as, message_at, first_at, head_at}
@@ -50,7 +50,7 @@ sent_is s w sponsor target content h = ap (λ (o : Option Slot). sent_in w o) h
 all_true : (a b c : Bool) → a ≡ false → b ≡ true → c ≡ true → (not a && b && c) ≡ true
 all_true a b c p q r = rw (p, q, r) refl
 
-module _ (lay : Layout) (rom_of : RomImage) (program : IsProgram rom_of lay) {grant : Amounts} (spent : Spending) (s : State) (c : Configuration Tests)
+module _ (lay : Layout) (rom_of : RomImage) (program : HoldsProgram rom_of.boot rom_of.cells lay) {grant : Amounts} (spent : Spending) (s : State) (c : Configuration Tests)
     (ok : Sound grant s) (h : StateStands lay rom_of.cells spent s c) where
   pub rising : Rising 0 s.next_number c.pending
   rising = rising_as (MessageStands lay s.store s.roll) (λ m p x. x.number) 0 s.next_number s.messages c.pending h.messages ok.rising

@@ -1,4 +1,6 @@
 -- A dispatch keeps what stands; a device's delivery makes the configuration that its message's delivery makes.
+use Rattle.instr_table.specs.Spent.{Spent, unspent}
+use Rattle.vm_turn.specs.Spending.{Spending, with_spent}
 use Rattle.std.proofs.Common.{◌≡◌, ◌⊎◌, inl, inr, refl, ap, sym, subst, ◌∙◌, ℕ, Bool, true, false, List, [], ◌∷◌, ◌++◌, length-append, Option, Some, None, slice_get, eq-eqb, ne_eqb, arith}
 use Rattle.std.specs.Prelude.{pos}
 use Rattle.std.proofs.lemmas.Option.{none-some}
@@ -26,11 +28,9 @@ use Rattle.hum_meaning.specs.Deliver.{Configuration, without, drop}
 use Rattle.hum_core.specs.Alike.{Each}
 use Rattle.hum_core.specs.TestLists.{Tests}
 use Rattle.hum_code.specs.Layout.{Layout}
-use Rattle.instr_table.specs.Spent.{Spent, unspent}
 use Rattle.hum_code.specs.Reaches.{Reaches, dispatched}
 use Rattle.hum_code.proofs.Standing.{longer_same, stands_later}
-use Rattle.hum_sim.specs.Program.{IsProgram}
-use Rattle.hum_sim.specs.Spent.{Spending, with_spent}
+use Rattle.hum_code.specs.Program.{HoldsProgram}
 use Rattle.hum_sim.specs.Standing.{NoEventOf, BehaviourStands, ActorStands, MessageStands, LaneStands, IsFirst, StateStands}
 use Rattle.hum_sim.proofs.Lists.{every_both, none_inside, each_by}
 use Rattle.hum_sim.proofs.Pending.{Pending, message_number, message_without, first_without, each_without}
@@ -51,7 +51,7 @@ word_cases a b = by (same_word a b) refl
 abbrev pub Targets : State → Type 0
 Targets s = (i j : ℕ) (k l : Lane) → slice_get s.flight i ≡ Some k → slice_get s.flight j ≡ Some l → k.own.actor ≡ l.own.actor → i ≡ j
 
-module _ (lay : Layout) (rom_of : RomImage) (program : IsProgram rom_of lay) {grant : Amounts} (spent : Spending) (s : State) (c : Configuration Tests)
+module _ (lay : Layout) (rom_of : RomImage) (program : HoldsProgram rom_of.boot rom_of.cells lay) {grant : Amounts} (spent : Spending) (s : State) (c : Configuration Tests)
     (ok : Sound grant s) (h : StateStands lay rom_of.cells spent s c) (running : s.out_of ≡ None) (m : Message) (chosen : dispatchable s ≡ Some m) where
   abbrev pub p : Pending
   p = choosing.p lay rom_of program spent s c ok h running m chosen
@@ -177,7 +177,6 @@ module _ (lay : Layout) (rom_of : RomImage) (program : IsProgram rom_of lay) {gr
         let e : spent' m.number ≡ unspent = rw (eq-eqb m.number m.number refl) refl in
         subst (λ (n : Spent). Reaches store' (begun m.number own') store' new n) (sym e) dispatched;
     sponsor = refl;
-    sent = tt;
   }
 
   pub dispatch_stands : device_of target ≡ None → FlightSound begun_state → Targets begun_state → StateStands lay rom_of.cells spent' begun_state c
@@ -227,7 +226,6 @@ module _ (lay : Layout) (rom_of : RomImage) (program : IsProgram rom_of lay) {gr
         begins = f.begins;
         reached = subst (λ (n : Spent). Reaches f.base (begun k.number k.own) s.store k n) (sym (rw (ne_eqb k.number m.number d) refl)) f.reached;
         sponsor = f.sponsor;
-        sent = f.sent;
       }
 
   -- what an event in flight stands for does not hang on the output
@@ -243,7 +241,6 @@ module _ (lay : Layout) (rom_of : RomImage) (program : IsProgram rom_of lay) {gr
     begins = f.begins;
     reached = f.reached;
     sponsor = f.sponsor;
-    sent = f.sent;
   }
 
   pub device_stands : (end : End) (bytes : List ℕ) → FlightSound (delivered s m.number end bytes) → Targets (delivered s m.number end bytes)

@@ -1,4 +1,6 @@
 -- What is so of deliveries of a file's program is so of those of the file.
+use Rattle.instr_table.specs.Spent.{Spent}
+use Rattle.vm_turn.specs.Spending.{Spending}
 use Rattle.std.proofs.Common.{◌≡◌, ◌⊎◌, inl, inr, refl, sym, subst, ◌∙◌, ℕ, ◌≤◌, sum, List, [], ◌∷◌, map, Option, Some, None, arith}
 use Rattle.std.proofs.lemmas.Option.{same_Some}
 use Rattle.instr_table.specs.declared.charge.Quota.{Quota}
@@ -15,8 +17,6 @@ use Rattle.hum_core.specs.Bound.{Cost, HaveBounds, Fit}
 use Rattle.hum_core.specs.Likeness.{IsPending, IsAtMost, EventsAs, MeansTheSame}
 use Rattle.hum_core.specs.Programs.{FileAs, program_language}
 use Rattle.hum_core.specs.TestLists.{Tests}
-use Rattle.hum_code.specs.Reaches.{Spent}
-use Rattle.hum_sim.specs.Spent.{Spending, spent_in_flight}
 use Rattle.hum_sim.specs.Legal.{IsItsTurn}
 use Rattle.hum_sim.specs.Within.{SpentWithin, IsWithin, allowed, MessagesOf, NoChoiceFits}
 use Rattle.hum_sim.proofs.Causes.{sum_first}

@@ -1,4 +1,5 @@
 -- An event's end keeps what stands, with the configuration that its effects make.
+use Rattle.vm_turn.specs.Spending.{Spending}
 use Rattle.std.proofs.Common.{◌≡◌, inl, inr, refl, ap, sym, subst, ◌∙◌, ℕ, zero, suc, List, [], ◌∷◌, ◌++◌, map, Option, Some, None, slice_get, slice_set, arith, append-nil, add-zero}
 use Rattle.std.specs.Prelude.{remove}
 use Rattle.std.proofs.lemmas.Option.{same_Some}
@@ -36,8 +37,7 @@ use Rattle.hum_code.specs.WordLists.{Distinct}
 use Rattle.hum_code.specs.Layout.{Layout}
 use Rattle.hum_code.specs.Stands.{MadeStands, SentStands, NextStands, EffectsStand}
 use Rattle.hum_code.proofs.Standing.{Longer, longer_same, longer_by, stands_later}
-use Rattle.hum_sim.specs.Program.{IsProgram}
-use Rattle.hum_sim.specs.Spent.{Spending}
+use Rattle.hum_code.specs.Program.{HoldsProgram}
 use Rattle.hum_sim.specs.Standing.{AnswersStand, ActorStands, MessageStands, LaneStands, RootAlone, IsFirst, StateStands}
 use Rattle.hum_sim.proofs.Lists.{every_both, every_with, removed_only, get_append_left, one_there, each_append, each_at, each_by, each_length, each_set}
 use Rattle.hum_sim.proofs.Pending.{Pending, message_number, message_append, message_without, first_append, first_without, each_without}
@@ -95,7 +95,7 @@ next_answers lay s t r r' g h a code state v None (Some b) x n = absurd n
 next_answers lay s t r r' g h a code state v (Some u) None x n = absurd n
 next_answers lay s t r r' g h a code state v (Some u) (Some b) x n = inl (n.1, stands_later lay s t r' r' g (longer_same r') b.state u n.0)
 
-module _ (lay : Layout) (rom_of : RomImage) (program : IsProgram rom_of lay) {grant : Amounts} (spent : Spending) (s : State) (c : Configuration Tests)
+module _ (lay : Layout) (rom_of : RomImage) (program : HoldsProgram rom_of.boot rom_of.cells lay) {grant : Amounts} (spent : Spending) (s : State) (c : Configuration Tests)
     (ok : Sound grant s) (h : StateStands lay rom_of.cells spent s c) (i : ℕ) (l : Lane) (at : slice_get s.flight i ≡ Some l)
     (x : Effects) (e : Gathered) (unborn : Unborn s.store x.created) (sents : Every (IsSentIn s.store) x.sent) (under : Every (λ (m : Sent). m.sponsor ≡ root) x.sent)
     (eff : EffectsStand lay s.roll s.store e x) (spent' : Spending) (spends : (k : ℕ) → (k ≡ l.number → ⊥) → spent' k ≡ spent k) where

@@ -1,4 +1,6 @@
 -- An instruction that goes on keeps what stands.
+use Rattle.instr_table.specs.Spent.{Spent, spent_more}
+use Rattle.vm_turn.specs.Spending.{Spending, with_spent}
 use Rattle.std.proofs.Common.{◌≡◌, ◌⊎◌, inl, inr, refl, ap, sym, subst, ◌∙◌, ℕ, zero, suc, true, List, [], ◌∷◌, Some, slice_get, slice_set, eq-eqb, ne_eqb, arith}
 use Rattle.std.specs.Prelude.{remove}
 use Rattle.std.proofs.lemmas.Option.{same_Some}
@@ -27,16 +29,14 @@ use Rattle.hum_meaning.specs.Value.{Behaviour}
 use Rattle.hum_meaning.specs.Deliver.{Configuration}
 use Rattle.hum_core.specs.TestLists.{Tests}
 use Rattle.hum_code.specs.Layout.{Layout}
-use Rattle.instr_table.specs.Spent.{Spent, spent_more}
 use Rattle.hum_code.specs.Reaches.{Reaches, stepped}
 use Rattle.hum_code.proofs.Standing.{longer_same}
-use Rattle.hum_sim.specs.Program.{IsProgram}
-use Rattle.hum_sim.specs.Spent.{Spending, with_spent}
+use Rattle.hum_code.specs.Program.{HoldsProgram}
 use Rattle.hum_sim.specs.Standing.{NoEventOf, ActorStands, MessageStands, LaneStands, RootAlone, IsFirst, StateStands}
 use Rattle.hum_sim.proofs.Lists.{every_both, every_set, each_by}
 use Rattle.hum_sim.proofs.Pending.{Pending}
 use Rattle.hum_sim.proofs.Stores.{going_seen, going_rom}
-use Rattle.hum_sim.proofs.Plain.{PlainEffect, PlainOutcome, fetched-plain, row_at-plain, plain-sheet}
+use Rattle.hum_code.proofs.PlainRows.{PlainEffect, PlainOutcome, fetched_plain, row_at_plain, plain_sheet}
 use Rattle.hum_sim.proofs.Root.{root_spends, only_root}
 use Rattle.hum_sim.proofs.Growth.{actor_later, message_later, lane_later}
 use Rattle.hum_sim.proofs.Lanes.{lane_stands, others_numbers}
@@ -48,25 +48,7 @@ rests_set u [] i l new at e r = tt
 rests_set u (k ∷ ls) zero l new at e r = ((λ d. r.0 (e ∙ (ap (λ (x : Lane). x.own.actor) (sym (same_Some k l at)) ∙ d))), r.1)
 rests_set u (k ∷ ls) (suc i) l new at e r = (r.0, rests_set u ls i l new at e r.1)
 
--- its messages are under the root
-sent_under : (payer : W) (s : Seen) (f : Effects) (x : Effect) → payer ≡ root → ((w : W) → is_sponsor s w ≡ true → w ≡ root) → PlainEffect payer s x
-    → Every (λ (m : Sent). m.sponsor ≡ root) f.sent → Every (λ (m : Sent). m.sponsor ≡ root) (with_effect f x).sent
-sent_under payer s f Nothing e r p h = h
-sent_under payer s f (Sends m) e r p h = every-append (λ (m : Sent). m.sponsor ≡ root) f.sent (m ∷ []) h (by p, tt)
-  where
-    by : (m.sponsor ≡ payer) ⊎ (is_sponsor s m.sponsor ≡ true) → m.sponsor ≡ root
-    by (inl a) = a ∙ e
-    by (inr a) = r m.sponsor a
-sent_under payer s f (Creates m) e r p h = h
-sent_under payer s f (Assigns m) e r p h = h
-sent_under payer s f (Becomes b) e r p h = h
-sent_under payer s f (Sponsors w) e r p h = h
-sent_under payer s f (Grants w kind n) e r p h = h
-sent_under payer s f (Reclaims w) e r p h = h
-sent_under payer s f (Starts w signal) e r p h = h
-sent_under payer s f (Stops w) e r p h = h
-
-module _ (lay : Layout) (rom_of : RomImage) (program : IsProgram rom_of lay) {grant : Amounts} (spent : Spending) (s : State) (c : Configuration Tests)
+module _ (lay : Layout) (rom_of : RomImage) (program : HoldsProgram rom_of.boot rom_of.cells lay) {grant : Amounts} (spent : Spending) (s : State) (c : Configuration Tests)
     (ok : Sound grant s) (h : StateStands lay rom_of.cells spent s c) (i : ℕ) (l : Lane) (at : slice_get s.flight i ≡ Some l) (g : Going)
     (goes : (lane_row s.store s.sheet l).outcome ≡ Goes g) (due : Charge) where
   abbrev store' : Seen
@@ -90,14 +72,11 @@ module _ (lay : Layout) (rom_of : RomImage) (program : IsProgram rom_of lay) {gr
   rom_same : store'.rom ≡ s.store.rom
   rom_same = going_rom s.store l.stack g
 
-  pub plain : PlainEffect l.own.sponsor s.store g.effect
+  pub plain : PlainEffect l.own.sponsor g.effect
   plain =
-      subst (PlainOutcome l.own.sponsor s.store) goes
-      (row_at-plain l.own s.store s.sheet l.effects (values l.stack) (fetched s.store l.code)
-      (λ op k e. fetched-plain rom_of.cells s.store program.plain h.rom_is h.code_out l.code op k e))
-
-  under_root : (w : W) → is_sponsor s.store w ≡ true → w ≡ root
-  under_root w e = only_root s.sheet s.out_of h.root w (sponsor-among s.store _ w ok.listed e)
+      subst (PlainOutcome l.own.sponsor) goes
+      (row_at_plain l.own s.store s.sheet l.effects (values l.stack) (fetched s.store l.code)
+      (λ op k e. fetched_plain rom_of.cells s.store program.plain h.rom_is h.code_out l.code op k e))
 
   an_actor : (j : ℕ) (u : W) (b : Behaviour Tests) → slice_get s.roll j ≡ Some u → ActorStands lay s.store s.roll s.flight u b → ActorStands lay store' s.roll flight' u b
   an_actor j u b a x =
@@ -124,7 +103,6 @@ module _ (lay : Layout) (rom_of : RomImage) (program : IsProgram rom_of lay) {gr
         let e : spent' l.number ≡ spent_more (spent l.number) (lane_row s.store s.sheet l).charge = rw (eq-eqb l.number l.number refl) refl in
         subst (λ (n : Spent). Reaches f.base (begun l.number l.own) store' new n) (sym e) (stepped s.sheet g f.reached goes);
     sponsor = f.sponsor;
-    sent = sent_under l.own.sponsor s.store l.effects g.effect f.sponsor under_root plain f.sent;
   }
 
   abbrev pub gone_state : State
@@ -152,7 +130,7 @@ module _ (lay : Layout) (rom_of : RomImage) (program : IsProgram rom_of lay) {gr
       in_turn = λ one. every_set (IsFirst lay c) s.flight i new (every-removed (IsFirst lay c) s.flight i (h.flight.in_turn one)) (every-get (IsFirst lay c) s.flight i l (h.flight.in_turn one) at);
     };
     root =
-        subst (λ (rows : List Account). RootAlone rows s.out_of) (sym (plain-sheet (spend s.sheet l.own.sponsor due) l.own.sponsor s.store g.effect plain))
+        subst (λ (rows : List Account). RootAlone rows s.out_of) (sym (plain_sheet (spend s.sheet l.own.sponsor due) l.own.sponsor g.effect plain))
         (root_spends s.sheet s.out_of h.root l.own.sponsor due f.sponsor);
     code_out = keeps-code_out s.store s.sheet l g goes h.code_out;
   }

@@ -1,4 +1,6 @@
 -- What others do leaves what stands.
+use Rattle.instr_table.specs.Spent.{Spent}
+use Rattle.vm_turn.specs.Spending.{Spending}
 use Rattle.std.proofs.Common.{◌≡◌, inl, inr, sym, subst, ◌∙◌, List, Some, slice_get}
 use Rattle.cap_words.specs.Words.{W}
 use Rattle.cap_words.specs.Seen.{Seen, slot_seen}
@@ -11,10 +13,8 @@ use Rattle.hum_meaning.specs.After.{message_of}
 use Rattle.hum_core.specs.TestLists.{Tests}
 use Rattle.hum_code.specs.Layout.{Layout}
 use Rattle.hum_code.specs.Opening.{Devices}
-use Rattle.instr_table.specs.Spent.{Spent}
 use Rattle.hum_code.specs.Reaches.{Reaches, others}
 use Rattle.hum_code.proofs.Standing.{Longer, stands_later}
-use Rattle.hum_sim.specs.Spent.{Spending}
 use Rattle.hum_sim.specs.Standing.{first_to, NoEventOf, AnswersStand, BehaviourStands, ActorStands, MessageStands, LaneStands}
 use Rattle.hum_sim.proofs.Pending.{Pending}
 use Rattle.hum_sim.proofs.Stores.{same_grows}
@@ -83,7 +83,6 @@ module _ (lay : Layout) (s t : Seen) (r r' : List W) (g : Grows s t) (h : Longer
     };
     reached = subst (λ (n : Spent). Reaches f.base (begun l.number l.own) t l n) (sym spends) (others f.reached g);
     sponsor = f.sponsor;
-    sent = f.sent;
   }
     where
       answers_base : (b : Seen) (a code state : W) (v : Value Tests) → AnswersStand lay b r a code state v → AnswersStand lay b r' a code state v

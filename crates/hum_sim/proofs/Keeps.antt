@@ -1,4 +1,6 @@
 -- Every turn keeps that the state stands for the configuration after its journal.
+use Rattle.instr_table.specs.Spent.{Spent, spent_in_kind, spent_more, unspent}
+use Rattle.vm_turn.specs.Spending.{Spending, charged_spending, go_spending, step_spending, turn_spending, unless_out_spending, with_spent}
 use Rattle.std.proofs.Common.{◌≡◌, ◌⊎◌, inl, inr, refl, ap, sym, subst, ◌∙◌, ℕ, ◌+◌, Bool, true, false, List, [], length, Option, Some, None, slice_get, eq-eqb, ne_eqb, arith, append-nil, if◌then◌else◌}
 use Rattle.std.specs.Prelude.{◌%◌}
 use Rattle.std.proofs.lemmas.Option.{none-some, same_Some}
@@ -33,10 +35,8 @@ use Rattle.hum_core.specs.TestLists.{Tests, tests_language}
 use Rattle.hum_core.specs.Bound.{Cost, bound}
 use Rattle.hum_code.specs.Layout.{Layout}
 use Rattle.hum_code.specs.Stands.{DataStand}
-use Rattle.instr_table.specs.Spent.{Spent, unspent, spent_more}
-use Rattle.hum_sim.specs.Program.{IsProgram}
+use Rattle.hum_code.specs.Program.{HoldsProgram}
 use Rattle.hum_sim.specs.Journal.{EndsAs, HasRunOut}
-use Rattle.hum_sim.specs.Spent.{Spending, with_spent, charged_spent, step_spent, go_spent, unless_spent as unless_spent_by, turn_spent, in_kind}
 use Rattle.hum_sim.specs.Standing.{first_to, ActorStands, LaneStands, RootAlone, IsFirst, StateStands}
 use Rattle.hum_sim.specs.Legal.{IsItsTurn}
 use Rattle.hum_sim.specs.Within.{SpentWithin}
@@ -45,13 +45,14 @@ use Rattle.hum_sim.proofs.Texts.{writes_same}
 use Rattle.hum_sim.proofs.Pending.{Pending, head_found, first_least, head_least}
 use Rattle.hum_sim.proofs.Stores.{Unborn}
 use Rattle.hum_sim.proofs.Root.{root_spends, root_stops, root_prepared}
-use Rattle.hum_sim.proofs.Lanes.{lane_stands, lane_in, others_numbers, created_once, names_distinct, follows}
+use Rattle.hum_sim.proofs.Lanes.{lane_stands, lane_in, others_numbers, created_once, names_distinct, sent_under_root, follows}
 use Rattle.hum_sim.proofs.Bounds.{delivers, next_within, now_within, spent_within}
 use Rattle.hum_sim.proofs.Choosing as choosing
 use Rattle.hum_sim.proofs.Dispatches as dispatches
 use Rattle.hum_sim.proofs.Dispatches.{Targets, printed_to}
-use Rattle.hum_sim.proofs.Plain.{plain-sheet}
+use Rattle.hum_code.proofs.PlainRows.{plain_sheet}
 use Rattle.hum_sim.proofs.Payments.{spent_due, nothing_spent, spent_in, spends_due, stops_free, removed_spent, set_spent, begun_spent, same_spent}
+use Rattle.hum_code.proofs.Programs.{names_run}
 use Rattle.hum_sim.proofs.GoesOn.{plain, goes_on_stands}
 use Rattle.hum_sim.proofs.Finishes.{finish_stands, nothing_commits}
 use Rattle.vm_turn.proofs.Taken.{every-get}
@@ -73,7 +74,7 @@ two_devices w d h = by (same_word w println_device) (same_word w say_device) h
 no_unborn : (s : Seen) → Unborn s []
 no_unborn s = record { are = λ w a. absurd a; once = λ w. omega arith }
 
-module _ (lay : Layout) (rom_of : RomImage) (program : IsProgram rom_of lay) {grant : Amounts} (spent : Spending) (s : State) (c : Configuration Tests)
+module _ (lay : Layout) (rom_of : RomImage) (program : HoldsProgram rom_of.boot rom_of.cells lay) {grant : Amounts} (spent : Spending) (s : State) (c : Configuration Tests)
     (ok : Sound grant s) (h : StateStands lay rom_of.cells spent s c) where
   abbrev language : Language Tests
   language = tests_language lay.units
@@ -117,11 +118,11 @@ module _ (lay : Layout) (rom_of : RomImage) (program : IsProgram rom_of lay) {gr
     abbrev sheet' : List Account
     sheet' = spend s.sheet l.own.sponsor charge
 
-    due_paid : (kind : Quota) → spent_in kind sheet' + in_kind kind (spent l.number) ≡ spent_in kind s.sheet + in_kind kind (spent_next l.number)
+    due_paid : (kind : Quota) → spent_in kind sheet' + spent_in_kind kind (spent l.number) ≡ spent_in kind s.sheet + spent_in_kind kind (spent_next l.number)
     due_paid kind =
         let a = spends_due s.sheet s.out_of h.root kind l.own.sponsor f.sponsor charge in
         let b = spent_due kind (spent l.number) charge in
-        let e = ap (in_kind kind) spent_here in
+        let e = ap (spent_in_kind kind) spent_here in
         omega (arith, a, b, e)
 
     enters : (spent' : Spending) (end : Ending) (d : Configuration Tests) → Leads language c f.message end d
@@ -141,7 +142,7 @@ module _ (lay : Layout) (rom_of : RomImage) (program : IsProgram rom_of lay) {gr
         record {
           configuration = commit c f.message d.1;
           stands = finish_stands lay rom_of program spent s c ok h i l at l.effects d.1
-              (record { are = own.unborn; once = created_once lay rom_of program spent s c ok h i l at }) own.sent f.sent d.4 spent_next others_spend
+              (record { are = own.unborn; once = created_once lay rom_of program spent s c ok h i l at }) own.sent (sent_under_root lay rom_of program spent s c ok h i l at) d.4 spent_next others_spend
               Committed sheet' s.out_of (root_spends s.sheet s.out_of h.root l.own.sponsor charge f.sponsor) events.sound events.targets;
           lanes = refl;
           step = inr (record {
@@ -163,7 +164,7 @@ module _ (lay : Layout) (rom_of : RomImage) (program : IsProgram rom_of lay) {gr
     drops : (spent' : Spending) → ((k : ℕ) → (k ≡ l.number → ⊥) → spent' k ≡ spent k) → (end : End) (ending : Ending) (sheet : List Account) (out : Option Quota)
         → RootAlone sheet out → EndsAs end ending → Leads language c f.message ending (drop c f.message)
         → ((k : ℕ) (cost : Cost) → bound language (c, f.message) k ≡ Some cost → SpentWithin (spent' l.number) cost)
-        → ((kind : Quota) → spent_in kind sheet + in_kind kind (spent l.number) ≡ spent_in kind s.sheet + in_kind kind (spent' l.number))
+        → ((kind : Quota) → spent_in kind sheet + spent_in_kind kind (spent l.number) ≡ spent_in kind s.sheet + spent_in_kind kind (spent' l.number))
         → (HasRunOut ending → (kind : Quota) × (out ≡ Some kind))
         → Events (record (finish s i l sheet no_effects end) { out_of = out })
         → Next lay rom_of.cells spent spent' s (record (finish s i l sheet no_effects end) { out_of = out }) c
@@ -206,7 +207,7 @@ module _ (lay : Layout) (rom_of : RomImage) (program : IsProgram rom_of lay) {gr
       paid = λ kind.
           let a = due_paid kind in
           let b = set_spent kind spent spent_next s.flight i l at others_spend (others_numbers lay rom_of program spent s c ok h i l at) (gone s.store l g) refl in
-          let e = ap (spent_in kind) (plain-sheet sheet' l.own.sponsor s.store g.effect (plain lay rom_of program spent s c ok h i l at g r charge)) in
+          let e = ap (spent_in kind) (plain_sheet sheet' l.own.sponsor g.effect (plain lay rom_of program spent s c ok h i l at g r charge)) in
           omega (arith, a, b, e);
     }
     act_next (Faults w) events r = faults_next w events r
@@ -222,7 +223,7 @@ module _ (lay : Layout) (rom_of : RomImage) (program : IsProgram rom_of lay) {gr
         ∙ ap (λ (o : Option W). record (released o kind (finish s i l (stop s.sheet l.own.sponsor) no_effects (RanOut kind))) { out_of = Some kind }) b
 
     charged_next : (o : Option Quota) → Events (charged s i l (lane_row s.store s.sheet l) o).0
-        → Next lay rom_of.cells spent (charged_spent spent l (lane_row s.store s.sheet l) o) s (charged s i l (lane_row s.store s.sheet l) o).0 c
+        → Next lay rom_of.cells spent (charged_spending spent l (lane_row s.store s.sheet l) o) s (charged s i l (lane_row s.store s.sheet l) o).0 c
     charged_next None events = act_next (lane_row s.store s.sheet l).outcome events refl
     charged_next (Some kind) events =
         subst (λ (t : State). Next lay rom_of.cells spent spent s t c) (sym (out_is kind))
@@ -235,7 +236,7 @@ module _ (lay : Layout) (rom_of : RomImage) (program : IsProgram rom_of lay) {gr
   still : Next lay rom_of.cells spent spent s s c
   still = record { configuration = c; stands = h; lanes = refl; step = inl (refl, refl); paid = λ kind. omega arith }
 
-  step_next : (i : ℕ) (o : Option Lane) → slice_get s.flight i ≡ o → Events (step s i o).0 → Next lay rom_of.cells spent (step_spent spent s o) s (step s i o).0 c
+  step_next : (i : ℕ) (o : Option Lane) → slice_get s.flight i ≡ o → Events (step s i o).0 → Next lay rom_of.cells spent (step_spending spent s o) s (step s i o).0 c
   step_next i None at events = still
   step_next i (Some l) at events = charged_next i l at (short (account s.sheet l.own.sponsor) (lane_row s.store s.sheet l).charge) events
 
@@ -291,7 +292,7 @@ module _ (lay : Layout) (rom_of : RomImage) (program : IsProgram rom_of lay) {gr
         ap (λ (b : Option (Behaviour Tests)). meaning.delivered language c p 0 b) (is_device d dev)
         ∙ ap (λ (o : Option (List ℕ)). printed c p o)
         (sym (ap (λ (y : Sent). piece d s.store y.content) sent_is
-        ∙ writes_same lay s.store s.roll data_stand program.names d (two_devices x.target d dev) known.content p.value (choosing.stands lay rom_of program spent s c ok h running m chosen).value))
+        ∙ writes_same lay s.store s.roll data_stand (names_run program) d (two_devices x.target d dev) known.content p.value (choosing.stands lay rom_of program spent s c ok h running m chosen).value))
 
     no_cost : (k : ℕ) (cost : Cost) → bound language (c, p) k ≡ Some cost → SpentWithin (spent' m.number) cost
     no_cost k cost e =
@@ -319,7 +320,7 @@ module _ (lay : Layout) (rom_of : RomImage) (program : IsProgram rom_of lay) {gr
       paid = λ kind.
           let b = same_spent kind spent m.number s.flight (dispatches.others_numbers lay rom_of program spent s c ok h running m chosen) in
           let same : spent' m.number ≡ unspent = rw (eq-eqb m.number m.number refl) refl in
-          let e = ap (in_kind kind) same ∙ nothing_spent kind in
+          let e = ap (spent_in_kind kind) same ∙ nothing_spent kind in
           omega (arith, b, e);
     }
 
@@ -337,7 +338,7 @@ module _ (lay : Layout) (rom_of : RomImage) (program : IsProgram rom_of lay) {gr
 
   -- ---- what others have spent
 
-  step_stays : (i : ℕ) (o : Option Lane) → slice_get s.flight i ≡ o → (k : ℕ) → message_of k c.pending ≡ None → step_spent spent s o k ≡ spent k
+  step_stays : (i : ℕ) (o : Option Lane) → slice_get s.flight i ≡ o → (k : ℕ) → message_of k c.pending ≡ None → step_spending spent s o k ≡ spent k
   step_stays i None at k e = refl
   step_stays i (Some l) at k e = by (short (account s.sheet l.own.sponsor) (lane_row s.store s.sheet l).charge)
     where
@@ -346,35 +347,35 @@ module _ (lay : Layout) (rom_of : RomImage) (program : IsProgram rom_of lay) {gr
           let f = lane_stands lay rom_of program spent s c ok h i l at in
           none-some f.message (sym e ∙ (ap (λ (n : ℕ). message_of n c.pending) q ∙ f.pending))
 
-      by : (o : Option Quota) → charged_spent spent l (lane_row s.store s.sheet l) o k ≡ spent k
+      by : (o : Option Quota) → charged_spending spent l (lane_row s.store s.sheet l) o k ≡ spent k
       by (Some kind) = refl
       by None = rw (ne_eqb k l.number differs) refl
 
-  go_stays : s.out_of ≡ None → (pick : ℕ) (o : Option Message) → dispatchable s ≡ o → (k : ℕ) → message_of k c.pending ≡ None → go_spent spent s pick o k ≡ spent k
+  go_stays : s.out_of ≡ None → (pick : ℕ) (o : Option Message) → dispatchable s ≡ o → (k : ℕ) → message_of k c.pending ≡ None → go_spending spent s pick o k ≡ spent k
   go_stays running pick None chosen k e = step_stays (pick % length s.flight) (slice_get s.flight (pick % length s.flight)) refl k e
   go_stays running pick (Some m) chosen k e =
       rw (ne_eqb k m.number (λ q.
       none-some (choosing.p lay rom_of program spent s c ok h running m chosen) (sym e ∙ (ap (λ (n : ℕ). message_of n c.pending) q ∙ choosing.pending lay rom_of program spent s c ok h running m chosen)))) refl
 
-  unless_stays : (pick : ℕ) (o : Option Quota) → s.out_of ≡ o → (k : ℕ) → message_of k c.pending ≡ None → unless_spent_by spent s pick o k ≡ spent k
+  unless_stays : (pick : ℕ) (o : Option Quota) → s.out_of ≡ o → (k : ℕ) → message_of k c.pending ≡ None → unless_out_spending spent s pick o k ≡ spent k
   unless_stays pick (Some kind) r k e = refl
   unless_stays pick None r k e = go_stays r pick (dispatchable s) refl k e
 
   -- a turn changes what is spent by an event of a pending message alone
-  pub spent_stays : (pick k : ℕ) → message_of k c.pending ≡ None → turn_spent spent s pick k ≡ spent k
+  pub spent_stays : (pick k : ℕ) → message_of k c.pending ≡ None → turn_spending spent s pick k ≡ spent k
   spent_stays pick k e = unless_stays pick s.out_of refl k e
 
   -- ---- the turn
 
-  go_next : (running : s.out_of ≡ None) (pick : ℕ) (o : Option Message) → dispatchable s ≡ o → Events (go s pick o).0 → Next lay rom_of.cells spent (go_spent spent s pick o) s (go s pick o).0 c
+  go_next : (running : s.out_of ≡ None) (pick : ℕ) (o : Option Message) → dispatchable s ≡ o → Events (go s pick o).0 → Next lay rom_of.cells spent (go_spending spent s pick o) s (go s pick o).0 c
   go_next running pick None e events = step_next (pick % length s.flight) (slice_get s.flight (pick % length s.flight)) refl events
   go_next running pick (Some m) e events = dispatch_next running m e (device_of (sent_at s.store m.event).target) refl events
 
-  unless_next : (pick : ℕ) (o : Option Quota) → s.out_of ≡ o → Events (unless_spent s pick o).0 → Next lay rom_of.cells spent (unless_spent_by spent s pick o) s (unless_spent s pick o).0 c
+  unless_next : (pick : ℕ) (o : Option Quota) → s.out_of ≡ o → Events (unless_spent s pick o).0 → Next lay rom_of.cells spent (unless_out_spending spent s pick o) s (unless_spent s pick o).0 c
   unless_next pick (Some kind) e events = still
   unless_next pick None e events = go_next e pick (dispatchable s) refl events
 
-  pub turn_next : (pick : ℕ) → Next lay rom_of.cells spent (turn_spent spent s pick) s (turn s pick).0 c
+  pub turn_next : (pick : ℕ) → Next lay rom_of.cells spent (turn_spending spent s pick) s (turn s pick).0 c
   turn_next pick =
       let sound = turn-flight s ok h.flight.sound pick in
       unless_next pick s.out_of refl (record { sound = sound; targets = flight-actors (turn s pick).0 (turn-sound grant s ok pick) sound })

@@ -1,4 +1,5 @@
 -- What is so of an event in flight in a state that stands.
+use Rattle.vm_turn.specs.Spending.{Spending}
 use Rattle.std.proofs.Common.{◌≡◌, ◌⊎◌, inl, inr, refl, ap, sym, subst, ◌∙◌, ℕ, zero, suc, ◌≤◌, List, [], ◌∷◌, ◌++◌, length, Option, Some, slice_get, arith}
 use Rattle.std.specs.Prelude.{pos, remove}
 use Rattle.std.proofs.lemmas.Option.{none-some, same_Some}
@@ -10,7 +11,8 @@ use Rattle.instr_table.specs.Types.{AnActor, look_up}
 use Rattle.instr_table.specs.Lane.{Lane}
 use Rattle.instr_table.specs.Reach.{Every}
 use Rattle.vm_sponsor.specs.declared.amounts.Amounts.{Amounts}
-use Rattle.vm_turn.specs.State.{State}
+use Rattle.instr_table.specs.Event.{Sent}
+use Rattle.vm_turn.specs.State.{State, root}
 use Rattle.vm_turn.specs.Sound.{Sound, StandsIn, Other, numbers, times, created_by}
 use Rattle.vm_turn.proofs.Sums.{sum-at, how_often}
 use Rattle.vm_turn.proofs.Events.{times-cons, times-head, times-among}
@@ -27,8 +29,8 @@ use Rattle.hum_code.specs.Layout.{Layout}
 use Rattle.hum_code.specs.Emission.{Emission}
 use Rattle.hum_code.specs.Ending.{DeliveryOutcome, AreActors, FollowsDelivery}
 use Rattle.hum_code.proofs.Law.{events_follow, openings_follow}
-use Rattle.hum_sim.specs.Program.{IsProgram}
-use Rattle.hum_sim.specs.Spent.{Spending}
+use Rattle.hum_code.proofs.Programs.{messages_under_own}
+use Rattle.hum_code.specs.Program.{HoldsProgram}
 use Rattle.hum_sim.specs.Standing.{AnswersStand, ActorStands, LaneStands, StateStands}
 use Rattle.hum_sim.proofs.Lists.{every_both, each_left}
 use Rattle.hum_sim.proofs.Stores.{is_among, among_times, shown_actor}
@@ -96,7 +98,7 @@ actors_apart s k l a b d e =
     = sym a.busy ∙ (ap (λ (w : W). slot_seen s w) e ∙ b.busy) in
     d (ap number_in both)
 
-module _ (lay : Layout) (rom_of : RomImage) (program : IsProgram rom_of lay) {grant : Amounts} (spent : Spending) (s : State) (c : Configuration Tests)
+module _ (lay : Layout) (rom_of : RomImage) (program : HoldsProgram rom_of.boot rom_of.cells lay) {grant : Amounts} (spent : Spending) (s : State) (c : Configuration Tests)
     (ok : Sound grant s) (h : StateStands lay rom_of.cells spent s c) where
   -- ---- the roll
 
@@ -154,6 +156,13 @@ module _ (lay : Layout) (rom_of : RomImage) (program : IsProgram rom_of lay) {gr
 
     pub names_distinct : Distinct (roll_with s.roll l.effects)
     names_distinct = distinct_by (s.roll ++ created_by l) names_once
+
+    -- its messages are under the root
+    pub sent_under_root : Every (λ (m : Sent). m.sponsor ≡ root) l.effects.sent
+    sent_under_root =
+        let x = lane_stands in
+        subst (λ (w : W). Every (λ (m : Sent). m.sponsor ≡ w) l.effects.sent) x.sponsor
+        (messages_under_own rom_of.boot rom_of.cells lay program x.base s.store l.number l.own l (spent l.number) x.reached h.rom_is h.code_out)
 
     -- ---- it follows its delivery
 

@@ -1,4 +1,7 @@
 -- What a turn makes of what a state stands for, in the program's own language.
+use Rattle.instr_table.specs.Spent.{Spent, spent_in_kind}
+use Rattle.vm_turn.specs.Spending.{Spending, spent_in_flight}
+use Rattle.hum_sim.specs.Spent.{spent_by_root}
 use Rattle.std.specs.Prelude.{◌≡◌, ◌⊎◌, ℕ, ◌+◌, List, [], ◌∷◌, ◌++◌, Some}
 use Rattle.std.proofs.Common.{inl, inr}
 use Rattle.instr_table.specs.declared.charge.Quota.{Quota}
@@ -13,8 +16,6 @@ use Rattle.hum_meaning.specs.After.{Enters}
 use Rattle.hum_core.specs.Bound.{Cost, bound}
 use Rattle.hum_core.specs.TestLists.{Tests, tests_language}
 use Rattle.hum_code.specs.Layout.{Layout}
-use Rattle.hum_code.specs.Reaches.{Spent}
-use Rattle.hum_sim.specs.Spent.{Spending, in_kind, spent_in_flight, spent_by_root}
 use Rattle.hum_sim.specs.Journal.{EntryAs, HasRunOut}
 use Rattle.hum_sim.specs.Standing.{StateStands}
 use Rattle.hum_sim.specs.Legal.{IsItsTurn}
@@ -39,7 +40,7 @@ pub record Entered (lay : Layout) (spent : Spending) (s t : State) (c d : Config
 -- what the event of an added entry spent
 abbrev pub added_spent : {A : Type 0} {lay : Layout} {spent : Spending} {s t : State} {c d : Configuration Tests} → Quota → A ⊎ Entered lay spent s t c d → ℕ
 added_spent kind (inl a) = 0
-added_spent {spent = spent} kind (inr e) = in_kind kind (spent e.entry.message)
+added_spent {spent = spent} kind (inr e) = spent_in_kind kind (spent e.entry.message)
 
 -- the next state stands for the same configuration, or for the one that the entry makes of it that the turn adds
 pub record Next (lay : Layout) (rom : List Quad) (before spent : Spending) (s t : State) (c : Configuration Tests) : Type 0 where

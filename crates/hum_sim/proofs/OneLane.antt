@@ -1,4 +1,5 @@
 -- With one lane a run's deliveries are those of the file in the order of their numbers.
+use Rattle.vm_turn.specs.Spending.{Spending, spent_in_run}
 use Rattle.std.proofs.Common.{◌≡◌, refl, ap, sym, subst, ◌∙◌, ℕ, zero, suc, ◌+◌, ◌≤◌, List, [], ◌∷◌, ◌++◌, length, map, sum, Option, Some, None, slice_get, arith, append-nil}
 use Rattle.std.proofs.lemmas.Option.{none-some, same_Some}
 use Rattle.quad_memory.specs.Image.{RomImage}
@@ -34,7 +35,6 @@ use Rattle.hum_core.proofs.Programs.{program_means}
 use Rattle.hum_code.specs.Layout.{Layout}
 use Rattle.hum_sim.specs.Program.{HoldsFile}
 use Rattle.hum_sim.specs.Journal.{EntryAs, HasRunOut, AreDecided}
-use Rattle.hum_sim.specs.Spent.{Spending, spent_in_run}
 use Rattle.hum_sim.specs.Standing.{IsFirst}
 use Rattle.hum_sim.specs.Legal.{IsLegal}
 use Rattle.hum_sim.specs.Within.{allowed, MessagesOf, FinishedBounds}
@@ -230,7 +230,7 @@ module _ (file : List Stmt) (image : RomImage) (layout : Layout) (holds : HoldsF
       one_of None m b = absurd b
 
       lane_is : (m : Message Tests) × (message_of l.number h.of_program.pending ≡ Some m)
-      lane_is = let x = lane_stands layout image h.holds.is_program spent s h.of_program sound h.stands i l at in (x.message, x.pending)
+      lane_is = let x = lane_stands layout image h.holds.holds_program spent s h.of_program sound h.stands i l at in (x.message, x.pending)
 
       found : (n : Message (Named written)) × (message_of l.number f.configuration.pending ≡ Some n)
       found = one_of (message_of l.number f.configuration.pending) lane_is.0
@@ -243,7 +243,7 @@ module _ (file : List Stmt) (image : RomImage) (layout : Layout) (holds : HoldsF
       is : found.0.number ≡ next
       is = least_is next f.configuration.next_number f.configuration found.0 l.number contiguous found.1 (λ n t p.
           let q = (((program_means file).seen f.configuration h.of_program h.alike).pending n t).0 p in
-          let a = head_least 0 s.next_number h.of_program.pending first.0 (rising layout image h.holds.is_program spent s h.of_program sound h.stands) first.1 q.1 q.0 q.2 in
+          let a = head_least 0 s.next_number h.of_program.pending first.0 (rising layout image h.holds.holds_program spent s h.of_program sound h.stands) first.1 q.1 q.0 q.2 in
           let b = found_number l.number f.configuration.pending found.0 found.1 in
           let e = q.3 in
           let g = first.2 in

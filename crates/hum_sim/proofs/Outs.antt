@@ -1,4 +1,5 @@
 -- The turn in which the root runs out.
+use Rattle.vm_turn.specs.Spending.{Spending}
 use Rattle.std.proofs.Common.{◌≡◌, refl, ap, sym, subst, ◌∙◌, ℕ, List, [], ◌∷◌, ◌++◌, length, Option, Some, None, slice_get}
 use Rattle.std.specs.Prelude.{◌%◌}
 use Rattle.std.proofs.lemmas.Option.{none-some, same_Some}
@@ -18,8 +19,7 @@ use Rattle.vm_turn.specs.Sound.{Sound}
 use Rattle.hum_meaning.specs.Deliver.{Configuration}
 use Rattle.hum_core.specs.TestLists.{Tests}
 use Rattle.hum_code.specs.Layout.{Layout}
-use Rattle.hum_sim.specs.Program.{IsProgram}
-use Rattle.hum_sim.specs.Spent.{Spending}
+use Rattle.hum_code.specs.Program.{HoldsProgram}
 use Rattle.hum_sim.specs.Standing.{StateStands}
 use Rattle.hum_sim.proofs.Keeps.{out_is}
 
@@ -31,7 +31,7 @@ pub record OutNow (s t : State) (kind : Quota) : Type 0 where
   pub short_of : short (account s.sheet lane.own.sponsor) (lane_row s.store s.sheet lane).charge ≡ Some kind
   pub last : t.journal ≡ s.journal ++ entry lane.number (RanOut kind) ∷ []
 
-module _ (lay : Layout) (rom_of : RomImage) (program : IsProgram rom_of lay) {grant : Amounts} (spent : Spending) (s : State) (c : Configuration Tests)
+module _ (lay : Layout) (rom_of : RomImage) (program : HoldsProgram rom_of.boot rom_of.cells lay) {grant : Amounts} (spent : Spending) (s : State) (c : Configuration Tests)
     (ok : Sound grant s) (h : StateStands lay rom_of.cells spent s c) (running : s.out_of ≡ None) where
   act_out : (i : ℕ) (l : Lane) (sheet : List Account) (o : Outcome) → (act s i l sheet o).0.out_of ≡ s.out_of
   act_out i l sheet (Goes g) = refl

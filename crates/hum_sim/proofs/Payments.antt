@@ -1,4 +1,6 @@
 -- What the root has spent is what events have.
+use Rattle.instr_table.specs.Spent.{Spent, due_in_kind, spent_in_kind, spent_more, unspent}
+use Rattle.vm_turn.specs.Spending.{Spending, spent_in_flight, with_spent}
 use Rattle.std.proofs.Common.{◌≡◌, refl, ap, ◌∙◌, ℕ, ◌+◌, List, [], ◌∷◌, ◌++◌, Option, Some, slice_get, slice_set, eq-eqb, ne_eqb, arith}
 use Rattle.std.specs.Prelude.{remove}
 use Rattle.std.proofs.lemmas.List.Sums.{sum_by-cons, sum_by_push}
@@ -10,24 +12,16 @@ use Rattle.instr_table.specs.Lane.{Lane}
 use Rattle.instr_table.specs.Reach.{Every}
 use Rattle.vm_turn.specs.State.{root}
 use Rattle.vm_turn.proofs.Sums.{sum-removed, sum-set}
-use Rattle.instr_table.specs.Spent.{Spent, unspent, spent_more}
 use Rattle.cap_words.specs.Words.{W}
-use Rattle.hum_sim.specs.Spent.{Spending, with_spent, in_kind, spent_in_flight}
 use Rattle.hum_sim.specs.Standing.{RootAlone}
 use Rattle.hum_sim.proofs.Root.{spent_account, stopped_account}
 
--- what is due of a kind
-abbrev pub due_of : Quota → Charge → ℕ
-due_of Memory c = c.quads
-due_of Events c = c.events
-due_of Cycles c = 1
-
-pub spent_due : (kind : Quota) (n : Spent) (c : Charge) → in_kind kind (spent_more n c) ≡ in_kind kind n + due_of kind c
+pub spent_due : (kind : Quota) (n : Spent) (c : Charge) → spent_in_kind kind (spent_more n c) ≡ spent_in_kind kind n + due_in_kind kind c
 spent_due Memory n c = omega arith
 spent_due Events n c = omega arith
 spent_due Cycles n c = omega arith
 
-pub nothing_spent : (kind : Quota) → in_kind kind unspent ≡ 0
+pub nothing_spent : (kind : Quota) → spent_in_kind kind unspent ≡ 0
 nothing_spent Memory = refl
 nothing_spent Events = refl
 nothing_spent Cycles = refl
@@ -37,7 +31,7 @@ nothing_spent Cycles = refl
 abbrev pub spent_in : Quota → List Account → ℕ
 spent_in kind sheet = (amount kind (account sheet root)).spent
 
-paid_of : (kind : Quota) (c : Charge) (a : Account) → (amount kind (paid c a)).spent ≡ (amount kind a).spent + due_of kind c
+paid_of : (kind : Quota) (c : Charge) (a : Account) → (amount kind (paid c a)).spent ≡ (amount kind a).spent + due_in_kind kind c
 paid_of Memory c a = refl
 paid_of Events c a = refl
 paid_of Cycles c a = refl
@@ -48,7 +42,7 @@ stopped_of Events a = refl
 stopped_of Cycles a = refl
 
 module _ (sheet : List Account) (out : Option Quota) (r : RootAlone sheet out) (kind : Quota) (who : W) (is : who ≡ root) where
-  pub spends_due : (c : Charge) → spent_in kind (spend sheet who c) ≡ spent_in kind sheet + due_of kind c
+  pub spends_due : (c : Charge) → spent_in kind (spend sheet who c) ≡ spent_in kind sheet + due_in_kind kind c
   spends_due c =
       ap (λ (w : W). spent_in kind (spend sheet w c)) is
       ∙ (ap (λ (a : Account). (amount kind a).spent) (spent_account sheet out r c) ∙ paid_of kind c (account sheet root))
@@ -62,12 +56,12 @@ module _ (sheet : List Account) (out : Option Quota) (r : RootAlone sheet out) (
 
 module _ (kind : Quota) where
   abbrev of : Spending → Lane → ℕ
-  of spent l = in_kind kind (spent l.number)
+  of spent l = spent_in_kind kind (spent l.number)
 
   others_same : (spent spent' : Spending) (n : ℕ) (ls : List Lane) → ((k : ℕ) → (k ≡ n → ⊥) → spent' k ≡ spent k) → Every (λ (k : Lane). k.number ≡ n → ⊥) ls → spent_in_flight kind spent' ls ≡ spent_in_flight kind spent ls
   others_same spent spent' n [] f e = refl
   others_same spent spent' n (k ∷ ls) f e =
-      let a = ap (in_kind kind) (f k.number e.0) in
+      let a = ap (spent_in_kind kind) (f k.number e.0) in
       let b = others_same spent spent' n ls f e.1 in
       let p = sum_by-cons (of spent') k ls in
       let q = sum_by-cons (of spent) k ls in
@@ -88,7 +82,7 @@ module _ (kind : Quota) where
         let a = removed_spent in
         let b = sum-removed (of spent') ls i l at in
         let c = sum-set (of spent') ls i l new at in
-        let d : of spent' new ≡ of spent' l = ap (λ (n : ℕ). in_kind kind (spent' n)) e in
+        let d : of spent' new ≡ of spent' l = ap (λ (n : ℕ). spent_in_kind kind (spent' n)) e in
         omega (arith, a, b, c, d)
 
   -- one begins
@@ -97,7 +91,7 @@ module _ (kind : Quota) where
   begun_spent spent n ls new others e =
       let a = others_same spent (with_spent spent n unspent) n ls (λ k d. rw (ne_eqb k n d) refl) others in
       let b = sum_by_push (of (with_spent spent n unspent)) ls new in
-      let c : of (with_spent spent n unspent) new ≡ 0 = ap (λ (k : ℕ). in_kind kind (with_spent spent n unspent k)) e ∙ (let x : with_spent spent n unspent n ≡ unspent = rw (eq-eqb n n refl) refl in ap (in_kind kind) x ∙ nothing_spent kind) in
+      let c : of (with_spent spent n unspent) new ≡ 0 = ap (λ (k : ℕ). spent_in_kind kind (with_spent spent n unspent k)) e ∙ (let x : with_spent spent n unspent n ≡ unspent = rw (eq-eqb n n refl) refl in ap (spent_in_kind kind) x ∙ nothing_spent kind) in
       omega (arith, a, b, c)
 
   -- none does

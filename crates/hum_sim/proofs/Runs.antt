@@ -1,4 +1,7 @@
 -- Every run follows its journal.
+use Rattle.instr_table.specs.Spent.{Spent, spent_in_kind, unspent}
+use Rattle.vm_turn.specs.Spending.{Spending, spending_after, spent_in_flight, spent_in_run, turn_spending}
+use Rattle.hum_sim.specs.Spent.{spent_by_finished, spent_by_root}
 use Rattle.std.proofs.Common.{◌≡◌, ◌⊎◌, inl, inr, refl, ap, sym, subst, ◌∙◌, ℕ, ◌+◌, ◌<◌, List, [], ◌∷◌, ◌++◌, Option, Some, None, arith}
 use Rattle.std.proofs.lemmas.List.Sums.{sum_by-cons, sum_by_push}
 use Rattle.std.proofs.lemmas.Option.{none-some}
@@ -27,9 +30,7 @@ use Rattle.hum_core.specs.Openings.{opening}
 use Rattle.hum_core.specs.Programs.{FileAs}
 use Rattle.hum_core.proofs.Programs.{program_means, programs_mean}
 use Rattle.hum_code.specs.Layout.{Layout}
-use Rattle.hum_code.specs.Reaches.{unspent}
 use Rattle.hum_sim.specs.Program.{HoldsFile}
-use Rattle.hum_sim.specs.Spent.{Spending, turn_spent, after_spent, spent_in_run, in_kind, spent_in_flight, spent_by_finished, spent_by_root}
 use Rattle.hum_sim.specs.Journal.{EntryAs, HasRunOut, AreDecided}
 use Rattle.hum_sim.specs.Legal.{IsItsTurn, IsLegal}
 use Rattle.hum_sim.specs.Within.{IsWithin, AreWithin}
@@ -78,10 +79,10 @@ within_same language old new c (y ∷ es) d f e h = (subst (IsWithin language (c
 finished_same : (kind : Quota) (old new : Spending) (es : List meaning.Entry) → SpendNoMore old new es → spent_by_finished kind new es ≡ spent_by_finished kind old es
 finished_same kind old new [] e = refl
 finished_same kind old new (y ∷ es) e =
-    let a = ap (in_kind kind) e.0 in
+    let a = ap (spent_in_kind kind) e.0 in
     let b = finished_same kind old new es e.1 in
-    let p = sum_by-cons (λ (x : meaning.Entry). in_kind kind (new x.message)) y es in
-    let q = sum_by-cons (λ (x : meaning.Entry). in_kind kind (old x.message)) y es in
+    let p = sum_by-cons (λ (x : meaning.Entry). spent_in_kind kind (new x.message)) y es in
+    let q = sum_by-cons (λ (x : meaning.Entry). spent_in_kind kind (old x.message)) y es in
     omega (arith, a, b, p, q)
 
 -- where the root holds out now it did before
@@ -105,7 +106,7 @@ module _ (file : List Stmt) (image : RomImage) (layout : Layout) (grant : Amount
     f = r.follows
 
     abbrev spent' : Spending
-    spent' = turn_spent spent s pick
+    spent' = turn_spending spent s pick
 
     abbrev t : State
     t = (turn s pick).0
@@ -143,7 +144,7 @@ module _ (file : List Stmt) (image : RomImage) (layout : Layout) (grant : Amount
 
     -- an entry is added
     more : (a : AddsAnEntry spent' s t f.configuration n.stands.configuration)
-        → ((kind : Quota) → spent_by_root kind t + spent_in_flight kind spent s.flight ≡ spent_by_root kind s + spent_in_flight kind spent' t.flight + in_kind kind (spent' a.delivery.message))
+        → ((kind : Quota) → spent_by_root kind t + spent_in_flight kind spent s.flight ≡ spent_by_root kind s + spent_in_flight kind spent' t.flight + spent_in_kind kind (spent' a.delivery.message))
         → Ran spent' t
     more a paid =
         let x : EntersLegally humus s.lanes (spent' a.delivery.message) f.configuration a.delivery n.stands.configuration = record { enters = a.enters; in_order = a.in_turn; within = a.within } in
@@ -173,7 +174,7 @@ module _ (file : List Stmt) (image : RomImage) (layout : Layout) (grant : Amount
                 let p = paid kind in
                 let q = f.paid kind in
                 let c = finished_same kind spent spent' f.journal stay in
-                let d = sum_by_push (λ (y : meaning.Entry). in_kind kind (spent' y.message)) f.journal a.delivery in
+                let d = sum_by_push (λ (y : meaning.Entry). spent_in_kind kind (spent' y.message)) f.journal a.delivery in
                 omega (arith, p, q, c, d);
           };
           gone = every-append (λ (y : meaning.Entry). Gone n.stands.configuration y.message) f.journal (a.delivery ∷ [])
@@ -191,9 +192,9 @@ module _ (file : List Stmt) (image : RomImage) (layout : Layout) (grant : Amount
         by (inl e) paid = same_journal e.0 e.1 paid
         by (inr a) paid = more a paid
 
-  ran_after : (picks : List ℕ) (spent : Spending) (s : State) → Ran spent s → Ran (after_spent spent s picks) (after s picks)
+  ran_after : (picks : List ℕ) (spent : Spending) (s : State) → Ran spent s → Ran (spending_after spent s picks) (after s picks)
   ran_after [] spent s r = r
-  ran_after (p ∷ picks) spent s r = ran_after picks (turn_spent spent s p) (turn s p).0 (ran_next spent s p r)
+  ran_after (p ∷ picks) spent s r = ran_after picks (turn_spending spent s p) (turn s p).0 (ran_next spent s p r)
 
   boot_paid : (kind : Quota) → spent_by_root kind (booted image grant lanes) ≡ 0
   boot_paid Memory = refl
@@ -214,7 +215,7 @@ module _ (file : List Stmt) (image : RomImage) (layout : Layout) (grant : Amount
         holds = holds;
         of_program = opening;
         alike = (programs_mean file holds.formed holds.scoped).opens;
-        stands = boot_stands layout image holds.is_program grant lanes;
+        stands = boot_stands layout image holds.holds_program grant lanes;
       };
       decided = λ o. tt;
       within = tt;

@@ -1,4 +1,7 @@
 -- Why a run of a file's image stops.
+use Rattle.instr_table.specs.Spent.{spent_in_kind}
+use Rattle.vm_turn.specs.Spending.{Spending, spent_in_run}
+use Rattle.hum_sim.specs.Spent.{spent_by_finished}
 use Rattle.std.proofs.Common.{◌≡◌, refl, ap, sym, subst, ◌∙◌, ℕ, ◌+◌, ◌≤◌, List, [], ◌∷◌, ◌++◌, map, sum, Option, Some, None, slice_get, arith}
 use Rattle.std.proofs.lemmas.List.Sums.{sum_by-cons}
 use Rattle.std.proofs.lemmas.Option.{none-some}
@@ -31,7 +34,6 @@ use Rattle.hum_core.specs.TestLists.{tests_language}
 use Rattle.hum_core.proofs.Programs.{program_means}
 use Rattle.hum_code.specs.Layout.{Layout}
 use Rattle.hum_sim.specs.Program.{HoldsFile}
-use Rattle.hum_sim.specs.Spent.{Spending, spent_in_run, in_kind, spent_in_flight, spent_by_finished}
 use Rattle.hum_sim.specs.Standing.{RootAlone}
 use Rattle.hum_sim.specs.Within.{allowed, MessagesOf, AreWithin, FinishedBounds, NoChoiceFits}
 use Rattle.hum_sim.specs.Runs.{FollowsItsJournal, IsShort, RanOutBecause, BoundsFit, BoundsAlwaysFit, RunStands, RunsFollowTheirJournals}
@@ -53,7 +55,7 @@ finished_within language kind spent c (e ∷ es) d f h [] b = absurd b
 finished_within language kind spent c (e ∷ es) d f h (x ∷ costs) b =
     let one = within_kind kind (spent e.message) x (h.0 b.0.0 x b.0.1) in
     let more = finished_within language kind spent f.0 es d f.2 h.1 costs b.1 in
-    let a = sum_by-cons (λ (y : Entry). in_kind kind (spent y.message)) e es in
+    let a = sum_by-cons (λ (y : Entry). spent_in_kind kind (spent y.message)) e es in
     let s = sum_first kind x costs in
     omega (arith, one, more, a, s)
 
@@ -107,11 +109,11 @@ module _ (file : List Stmt) (image : RomImage) (layout : Layout) (grant : Amount
   pub none_fits : (kind : Quota) → IsShort kind s → NoChoiceFits humus f.configuration spent s kind
   none_fits kind x =
       let h = f.stands in
-      let sponsor = (lane_stands layout image h.holds.is_program spent s h.of_program sound h.stands x.place x.lane x.there).sponsor in
+      let sponsor = (lane_stands layout image h.holds.holds_program spent s h.of_program sound h.stands x.place x.lane x.there).sponsor in
       let due = subst (λ (w : W). short (account s.sheet w) (lane_row s.store s.sheet x.lane).charge ≡ Some kind) (sym sponsor) x.due in
       none_fits_back file (program_means file) f.configuration h.of_program h.alike spent s kind
       (subst (λ (us : List TestUnit). NoChoiceFits (tests_language us) h.of_program spent s kind) h.holds.units
-      (none_fit layout image h.holds.is_program spent s h.of_program sound h.stands kind x.place x.lane x.there due))
+      (none_fit layout image h.holds.holds_program spent s h.of_program sound h.stands kind x.place x.lane x.there due))
 
   -- where all bounds fit the grant, each instruction can be paid
   pub all_paid : (kind : Quota) (finished : List Cost) (messages : List (Message (Named written))) (costs : List Cost)
@@ -136,8 +138,8 @@ module _ (file : List Stmt) (image : RomImage) (layout : Layout) (holds : HoldsF
       let f = follows_journal file image layout grant lanes holds x.earlier in
       let sound = run-sound image grant lanes x.earlier in
       let h = f.stands in
-      let now : OutNow s (turn s x.pick).0 kind = turn_out layout image h.holds.is_program spent s h.of_program sound h.stands x.running x.pick kind x.out in
-      let sponsor = (lane_stands layout image h.holds.is_program spent s h.of_program sound h.stands now.place now.lane now.there).sponsor in
+      let now : OutNow s (turn s x.pick).0 kind = turn_out layout image h.holds.holds_program spent s h.of_program sound h.stands x.running x.pick kind x.out in
+      let sponsor = (lane_stands layout image h.holds.holds_program spent s h.of_program sound h.stands now.place now.lane now.there).sponsor in
       let is : IsShort kind s = record {
         place = now.place;
         lane = now.lane;
@@ -173,7 +175,7 @@ module _ (file : List Stmt) (image : RomImage) (layout : Layout) (holds : HoldsF
       let f = follows_journal file image layout grant lanes holds picks in
       let h = f.stands in
       ((program_means file).seen f.configuration h.of_program h.alike).at_rest.1
-      (rest_means layout image h.holds.is_program (spent_in_run image grant lanes picks) s h.of_program (run-sound image grant lanes picks) h.stands pick
+      (rest_means layout image h.holds.holds_program (spent_in_run image grant lanes picks) s h.of_program (run-sound image grant lanes picks) h.stands pick
       (let l = lanes_stay file image layout grant lanes holds picks in omega (arith, l, some)) rest)
 
   run_stands : (picks : List ℕ) → RunStands file image layout grant lanes picks
@@ -186,7 +188,7 @@ module _ (file : List Stmt) (image : RomImage) (layout : Layout) (holds : HoldsF
       record {
         follows = f;
         order = keeps_order file image layout spent s f;
-        comes_to_rest = λ pick running none. rest_comes layout image h.holds.is_program spent s h.of_program (run-sound image grant lanes picks) h.stands running (at_rest.0 none) pick;
+        comes_to_rest = λ pick running none. rest_comes layout image h.holds.holds_program spent s h.of_program (run-sound image grant lanes picks) h.stands running (at_rest.0 none) pick;
         nothing_pending = nothing_left picks;
         why_out = why_out picks;
         holds_out = holds_out picks;

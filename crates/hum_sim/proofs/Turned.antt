@@ -1,4 +1,7 @@
 -- Every turn keeps that the state stands for a configuration of the file.
+use Rattle.instr_table.specs.Spent.{spent_in_kind}
+use Rattle.vm_turn.specs.Spending.{Spending, spent_in_flight, turn_spending}
+use Rattle.hum_sim.specs.Spent.{spent_by_root}
 use Rattle.std.proofs.Common.{◌≡◌, ◌⊎◌, inl, inr, refl, ap, sym, subst, ◌∙◌, ℕ, ◌+◌, List, None, arith}
 use Rattle.quad_memory.specs.Image.{RomImage}
 use Rattle.instr_table.specs.declared.charge.Quota.{Quota}
@@ -17,7 +20,6 @@ use Rattle.hum_core.specs.Programs.{FileAs, program_language}
 use Rattle.hum_core.specs.TestLists.{Tests, tests_language}
 use Rattle.hum_core.proofs.Programs.{program_means}
 use Rattle.hum_code.specs.Layout.{Layout}
-use Rattle.hum_sim.specs.Spent.{Spending, turn_spent, in_kind, spent_in_flight, spent_by_root}
 use Rattle.hum_sim.specs.Standing.{StateStands}
 use Rattle.hum_sim.specs.File.{StandsForFile}
 use Rattle.hum_sim.specs.Within.{IsWithin}
@@ -29,13 +31,13 @@ use Rattle.hum_sim.proofs.Files.{enters_back, none_forth}
 -- what the event of an added entry spent
 abbrev pub added : {A : Type 0} {spent : Spending} {s t : State} {c d : Configuration (Named written)} → Quota → A ⊎ AddsAnEntry spent s t c d → ℕ
 added kind (inl a) = 0
-added {spent = spent} kind (inr e) = in_kind kind (spent e.delivery.message)
+added {spent = spent} kind (inr e) = spent_in_kind kind (spent e.delivery.message)
 
 -- what a turn keeps, and what the root spends more
 pub record Turned (file : List Stmt) (image : RomImage) (layout : Layout) (grant : Amounts) (spent : Spending) (s : State) (pick : ℕ) (c : Configuration (Named written)) : Type 0 where
   pub stands : TurnStands file image layout grant spent s pick c
   pub paid : (kind : Quota) → spent_by_root kind (turn s pick).0 + spent_in_flight kind spent s.flight
-      ≡ spent_by_root kind s + spent_in_flight kind (turn_spent spent s pick) (turn s pick).0.flight + added kind stands.step
+      ≡ spent_by_root kind s + spent_in_flight kind (turn_spending spent s pick) (turn s pick).0.flight + added kind stands.step
 
 module _ (file : List Stmt) (image : RomImage) (layout : Layout) (grant : Amounts) (spent : Spending) (s : State) (c : Configuration (Named written))
     (h : Keeps file image layout grant spent s c) (pick : ℕ) where
@@ -46,14 +48,14 @@ module _ (file : List Stmt) (image : RomImage) (layout : Layout) (grant : Amount
   d = h.stands.of_program
 
   abbrev spent' : Spending
-  spent' = turn_spent spent s pick
+  spent' = turn_spending spent s pick
 
   abbrev t : State
   t = (turn s pick).0
 
   -- the events of messages that are not pending spend nothing more
   pub others_spend_nothing : (k : ℕ) → message_of k c.pending ≡ None → spent' k ≡ spent k
-  others_spend_nothing k e = spent_stays layout image h.stands.holds.is_program spent s d h.sound h.stands.stands pick k (none_forth file means c d h.stands.alike k e)
+  others_spend_nothing k e = spent_stays layout image h.stands.holds.holds_program spent s d h.sound h.stands.stands pick k (none_forth file means c d h.stands.alike k e)
 
   keeps : (c' : Configuration (Named written)) (d' : Configuration Tests) → (FileAs file).Configurations c' d' → StateStands layout image.cells spent' t d' → Keeps file image layout grant spent' t c'
   keeps c' d' a x = record { sound = turn-sound grant s h.sound pick; stands = record { holds = h.stands.holds; of_program = d'; alike = a; stands = x } }
@@ -62,7 +64,7 @@ module _ (file : List Stmt) (image : RomImage) (layout : Layout) (grant : Amount
   turned = by n.step n.paid
     where
       n : Next layout image.cells spent spent' s t d
-      n = turn_next layout image h.stands.holds.is_program spent s d h.sound h.stands.stands pick
+      n = turn_next layout image h.stands.holds.holds_program spent s d h.sound h.stands.stands pick
 
       by : (x : ((t.journal ≡ s.journal) × (n.configuration ≡ d)) ⊎ Entered layout spent' s t d n.configuration)
           → ((kind : Quota) → spent_by_root kind t + spent_in_flight kind spent s.flight ≡ spent_by_root kind s + spent_in_flight kind spent' t.flight + added_spent kind x)
@@ -97,7 +99,7 @@ module _ (file : List Stmt) (image : RomImage) (layout : Layout) (grant : Amount
             };
             paid = λ kind.
                 let p = paid kind in
-                let e = ap (λ (k : ℕ). in_kind kind (spent' k)) a.same.message in
+                let e = ap (λ (k : ℕ). spent_in_kind kind (spent' k)) a.same.message in
                 omega (arith, p, e);
           }
 

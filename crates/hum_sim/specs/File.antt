@@ -9,7 +9,7 @@ use Rattle.hum_core.specs.Programs.{FileAs}
 use Rattle.hum_core.specs.TestLists.{Tests}
 use Rattle.hum_code.specs.Layout.{Layout}
 use Rattle.hum_sim.specs.Program.{HoldsFile}
-use Rattle.hum_sim.specs.Spent.{Spending}
+use Rattle.vm_turn.specs.Spending.{Spending}
 use Rattle.hum_sim.specs.Standing.{StateStands}
 
 -- The image holds the file's program, and the state stands for a configuration of the program that is alike to the file's.

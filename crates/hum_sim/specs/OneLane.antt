@@ -20,7 +20,7 @@ use Rattle.hum_core.specs.Bound.{Cost, HasBound, Fit}
 use Rattle.hum_code.specs.Layout.{Layout}
 use Rattle.hum_sim.specs.Program.{HoldsFile}
 use Rattle.hum_sim.specs.Journal.{EntryAs, HasRunOut}
-use Rattle.hum_sim.specs.Spent.{spent_in_run}
+use Rattle.vm_turn.specs.Spending.{spent_in_run}
 use Rattle.hum_sim.specs.Within.{allowed}
 use Rattle.hum_sim.specs.File.{StandsForFile}
 

@@ -21,7 +21,8 @@ use Rattle.hum_core.specs.Alike.{Each}
 use Rattle.hum_core.specs.Bound.{Cost, HaveBounds, Fit}
 use Rattle.hum_code.specs.Layout.{Layout}
 use Rattle.hum_sim.specs.Program.{HoldsFile}
-use Rattle.hum_sim.specs.Spent.{Spending, spent_in_run, spent_in_flight, spent_by_finished, spent_by_root}
+use Rattle.vm_turn.specs.Spending.{Spending, spent_in_run, spent_in_flight}
+use Rattle.hum_sim.specs.Spent.{spent_by_finished, spent_by_root}
 use Rattle.hum_sim.specs.Journal.{EntryAs, AreDecided}
 use Rattle.hum_sim.specs.Legal.{IsLegal, InOrderOfNumbers, NumberedFrom}
 use Rattle.hum_sim.specs.Within.{allowed, MessagesOf, AreWithin, FinishedBounds, NoChoiceFits}

@@ -6,7 +6,6 @@ use Rattle.cap_words.specs.Seen.{Seen, ActorSlot, EventSlot, slot_seen}
 use Rattle.instr_table.specs.declared.charge.Quota.{Quota}
 use Rattle.instr_table.specs.Types.{AnActor, look_up}
 use Rattle.instr_table.specs.Making.{NoCodeInRam}
-use Rattle.instr_table.specs.Event.{Sent}
 use Rattle.instr_table.specs.Sheet.{Account, runs_in, signal_in}
 use Rattle.instr_table.specs.Lane.{Lane, begun}
 use Rattle.instr_table.specs.Reach.{Every}
@@ -26,7 +25,7 @@ use Rattle.hum_code.specs.Layout.{Layout}
 use Rattle.hum_code.specs.Reaches.{Reaches}
 use Rattle.hum_code.specs.Stands.{Stands}
 use Rattle.hum_code.specs.Opening.{Devices}
-use Rattle.hum_sim.specs.Spent.{Spending}
+use Rattle.vm_turn.specs.Spending.{Spending}
 
 -- the first of the messages to that actor
 abbrev pub first_to : ℕ → List (meaning.Message Tests) → Option (meaning.Message Tests)
@@ -99,7 +98,7 @@ module _ (layout : Layout) where
     pub message : Stands layout base roll l.own.message value
 
   -- An event in flight is of the first message to its actor that is pending, and its actor is no device. The machine's rows reach the event
-  -- from its dispatch, at what it has spent, whatever others did between. It and the messages that it sent are under the root.
+  -- from its dispatch, at what it has spent, whatever others did between. It is under the root, and so are the messages that it sends.
   pub record LaneStands (s : Seen) (roll : List W) (c : Configuration Tests) (spent : Spending) (l : Lane) : Type 0 where
     pub message : meaning.Message Tests
     pub pending : message_of l.number c.pending ≡ Some message
@@ -111,7 +110,6 @@ module _ (layout : Layout) where
     pub begins : DispatchStands base s.rom roll l behaviour message.value
     pub reached : Reaches base (begun l.number l.own) s l (spent l.number)
     pub sponsor : l.own.sponsor ≡ root
-    pub sent : Every (λ (m : Sent). m.sponsor ≡ root) l.effects.sent
 
   -- the event's message is the first of all that are pending
   abbrev pub IsFirst : Configuration Tests → Lane → Type 0

@@ -14,7 +14,7 @@ use Rattle.hum_meaning.specs.Written.{humus}
 use Rattle.hum_meaning.specs.After as after
 use Rattle.hum_meaning.specs.After.{Enters}
 use Rattle.hum_code.specs.Layout.{Layout}
-use Rattle.hum_sim.specs.Spent.{Spending, turn_spent}
+use Rattle.vm_turn.specs.Spending.{Spending, turn_spending}
 use Rattle.hum_sim.specs.Journal.{EntryAs, HasRunOut}
 use Rattle.hum_sim.specs.Legal.{IsItsTurn}
 use Rattle.hum_sim.specs.Within.{IsWithin}
@@ -40,9 +40,9 @@ pub record Keeps (file : List Stmt) (image : RomImage) (layout : Layout) (grant 
 -- The next state stands for the same configuration, or for the one that the entry makes of it that the turn adds.
 pub record TurnStands (file : List Stmt) (image : RomImage) (layout : Layout) (grant : Amounts) (spent : Spending) (s : State) (pick : ℕ) (c : Configuration (Named written)) : Type 0 where
   pub configuration : Configuration (Named written)
-  pub keeps : Keeps file image layout grant (turn_spent spent s pick) (turn s pick).0 configuration
+  pub keeps : Keeps file image layout grant (turn_spending spent s pick) (turn s pick).0 configuration
   pub lanes : (turn s pick).0.lanes ≡ s.lanes
-  pub step : (((turn s pick).0.journal ≡ s.journal) × (configuration ≡ c)) ⊎ AddsAnEntry (turn_spent spent s pick) s (turn s pick).0 c configuration
+  pub step : (((turn s pick).0.journal ≡ s.journal) × (configuration ≡ c)) ⊎ AddsAnEntry (turn_spending spent s pick) s (turn s pick).0 c configuration
 
 -- so it is after every turn, for every pick
 abbrev pub TurnsKeepTheStanding : Type 0

@@ -11,8 +11,8 @@ use Rattle.hum_meaning.specs.Deliver.{Message, Configuration}
 use Rattle.hum_meaning.specs.After.{Entry, message_of, Follows}
 use Rattle.hum_core.specs.Alike.{Each}
 use Rattle.hum_core.specs.Bound.{Cost, Event, bound, HasBound, HaveBounds, Fit}
-use Rattle.hum_code.specs.Reaches.{Spent}
-use Rattle.hum_sim.specs.Spent.{Spending, spent_in_flight}
+use Rattle.instr_table.specs.Spent.{Spent}
+use Rattle.vm_turn.specs.Spending.{Spending, spent_in_flight}
 
 -- at most that much was spent, in each kind
 pub record SpentWithin (n : Spent) (cost : Cost) : Type 0 where
