@@ -33,7 +33,7 @@ use Rattle.hum_sim.specs.Within.{allowed, MessagesOf, NoChoiceFits}
 use Rattle.hum_sim.proofs.Pending.{Pending}
 use Rattle.hum_sim.proofs.Lanes.{lane_stands}
 use Rattle.hum_sim.proofs.Bounds.{next_within, now_within, spent_within}
-use Rattle.hum_sim.proofs.Payments.{due_in_kind, spent_due}
+use Rattle.hum_sim.proofs.Payments.{spent_due}
 use Rattle.hum_sim.proofs.Choosing.{all_go}
 
 pub sum_first : (kind : Quota) (x : Cost) (xs : List Cost) → sum (map (allowed kind) (x ∷ xs)) ≡ allowed kind x + sum (map (allowed kind) xs)

@@ -45,7 +45,7 @@ use Rattle.hum_sim.proofs.Choosing.{rising}
 use Rattle.hum_sim.proofs.Lanes.{lane_stands}
 use Rattle.hum_sim.proofs.Order.{Contiguous, moves, contiguous_next, found_number, least_is}
 use Rattle.hum_sim.proofs.Pending.{head_least}
-use Rattle.hum_sim.proofs.Runs.{follows_journal, lanes_stay, keeps_order}
+use Rattle.hum_sim.proofs.Runs.{follows_journal, lanes_stay, what_follows}
 use Rattle.hum_sim.proofs.Stops.{sum_both, all_paid, why_out, nothing_left}
 
 module _ {L : Parts} where
@@ -171,9 +171,9 @@ output_is_the_texts file image image' layout layout' holds holds' grant grant' p
     let p = subst (λ (k : ℕ). IsLegal humus k (meaning.opening file) g.journal g.configuration g.follows) (lanes_stay file image' layout' grant' 1 holds' picks') g.legal in
     let same = one_way humus (named_lawful written) 0 (meaning.opening file) f.journal g.journal f.configuration g.configuration f.follows g.follows o p (f.decided running) (g.decided running')
     (refl, refl) (sym n ∙ (e ∙ n')) in
-    (keeps_order file image layout (spent_in_run image grant 1 picks) (run image grant 1 picks) f).output
+    (what_follows file image layout (spent_in_run image grant 1 picks) (run image grant 1 picks) f).output
     ∙ (ap (λ (c : Configuration (Named written)). c.output) same
-    ∙ sym (keeps_order file image' layout' (spent_in_run image' grant' 1 picks') (run image' grant' 1 picks') g).output)
+    ∙ sym (what_follows file image' layout' (spent_in_run image' grant' 1 picks') (run image' grant' 1 picks') g).output)
   where
     each_long : (xs : List machine.Entry) (ys : List Entry) → Each EntryAs xs ys → length xs ≡ length ys
     each_long [] [] h = refl
@@ -213,37 +213,25 @@ module _ (file : List Stmt) (image : RomImage) (layout : Layout) (holds : HoldsF
       → slice_get (run image grant 1 picks).flight i ≡ Some l → Of picks f next l
   lane_of picks f next contiguous i l at = record { message = found.0; found = found.1; number = sym (found_number l.number f.configuration.pending found.0 found.1) ∙ is }
     where
-      abbrev s : State
-      s = run image grant 1 picks
-
-      abbrev spent : Spending
-      spent = spent_in_run image grant 1 picks
-
-      abbrev h : StandsForFile file image layout spent s f.configuration
-      h = f.stands
-
-      sound : Sound grant s
-      sound = run-sound image grant 1 picks
-
       one_of : (o : Option (Message (Named written))) (m : Message Tests) → Both ((FileAs file).Messages) o (Some m) → (n : Message (Named written)) × (o ≡ Some n)
       one_of (Some n) m b = (n, refl)
       one_of None m b = absurd b
 
-      lane_is : (m : Message Tests) × (message_of l.number h.of_program.pending ≡ Some m)
-      lane_is = let x = lane_stands layout image h.holds.holds_program spent s h.of_program sound h.stands i l at in (x.message, x.pending)
+      lane_is : (m : Message Tests) × (message_of l.number f.stands.of_program.pending ≡ Some m)
+      lane_is = let x = lane_stands layout image f.stands.holds.holds_program (spent_in_run image grant 1 picks) (run image grant 1 picks) f.stands.of_program (run-sound image grant 1 picks) f.stands.stands i l at in (x.message, x.pending)
 
       found : (n : Message (Named written)) × (message_of l.number f.configuration.pending ≡ Some n)
       found = one_of (message_of l.number f.configuration.pending) lane_is.0
           (subst (λ (o : Option (Message Tests)). Both ((FileAs file).Messages) (message_of l.number f.configuration.pending) o) lane_is.1
-          ((program_means file).messages f.configuration h.of_program l.number h.alike))
+          ((program_means file).messages f.configuration f.stands.of_program l.number f.stands.alike))
 
-      first : IsFirst layout h.of_program l
-      first = every-get (IsFirst layout h.of_program) s.flight i l (h.stands.flight.in_turn (lanes_stay file image layout grant 1 holds picks)) at
+      first : IsFirst layout f.stands.of_program l
+      first = every-get (IsFirst layout f.stands.of_program) (run image grant 1 picks).flight i l (f.stands.stands.flight.in_turn (lanes_stay file image layout grant 1 holds picks)) at
 
       is : found.0.number ≡ next
       is = least_is next f.configuration.next_number f.configuration found.0 l.number contiguous found.1 (λ n t p.
-          let q = (((program_means file).seen f.configuration h.of_program h.alike).pending n t).0 p in
-          let a = head_least 0 s.next_number h.of_program.pending first.0 (rising layout image h.holds.holds_program spent s h.of_program sound h.stands) first.1 q.1 q.0 q.2 in
+          let q = (((program_means file).seen f.configuration f.stands.of_program f.stands.alike).pending n t).0 p in
+          let a = head_least 0 (run image grant 1 picks).next_number f.stands.of_program.pending first.0 (rising layout image f.stands.holds.holds_program (spent_in_run image grant 1 picks) (run image grant 1 picks) f.stands.of_program (run-sound image grant 1 picks) f.stands.stands) first.1 q.1 q.0 q.2 in
           let b = found_number l.number f.configuration.pending found.0 found.1 in
           let e = q.3 in
           let g = first.2 in
@@ -253,17 +241,14 @@ module _ (file : List Stmt) (image : RomImage) (layout : Layout) (holds : HoldsF
   no_cause : (picks : List ℕ) (kind : Quota) → RanOutBecause file image layout grant 1 picks kind → ⊥
   no_cause picks kind o = by r r.entries r.behind r.delivers r.costs_are
     where
-      abbrev s : State
-      s = run image grant 1 o.earlier
-
       r : Others o.earlier o.before
       r = others o.earlier o.before o.running
 
       l : Of o.earlier o.before r.next o.is_short.lane
       l = lane_of o.earlier o.before r.next r.contiguous o.is_short.place o.is_short.lane o.is_short.there
 
-      alone : s.flight ≡ o.is_short.lane ∷ []
-      alone = alone_in s.flight o.is_short.place o.is_short.lane (let q = o.before.stands.stands.flight.room in let n = lanes_stay file image layout grant 1 holds o.earlier in omega (arith, q, n)) o.is_short.there
+      alone : (run image grant 1 o.earlier).flight ≡ o.is_short.lane ∷ []
+      alone = alone_in (run image grant 1 o.earlier).flight o.is_short.place o.is_short.lane (let q = o.before.stands.stands.flight.room in let n = lanes_stay file image layout grant 1 holds o.earlier in omega (arith, q, n)) o.is_short.there
 
       by : (r : Others o.earlier o.before) (js : List Entry) (cs : List Cost) → Delivers humus r.next o.before.configuration js cs d → comes.costs ≡ r.before ++ cs → ⊥
       by r [] [] x e = none_pending o.before.configuration o.is_short.lane.number l.message (ap (λ (z : Configuration (Named written)). z.pending) x ∙ comes.rests) l.found
@@ -274,13 +259,13 @@ module _ (file : List Stmt) (image : RomImage) (layout : Layout) (holds : HoldsF
           let m = x.3.message in
           let number : o.is_short.lane.number ≡ j.message = own.number ∙ sym x.0 in
           let found : message_of o.is_short.lane.number o.before.configuration.pending ≡ Some m = ap (λ (n : ℕ). message_of n o.before.configuration.pending) number ∙ x.3.pending in
-          let messages : MessagesOf o.before.configuration s.flight (m ∷ []) = subst (λ (ls : List Lane). MessagesOf o.before.configuration ls (m ∷ [])) (sym alone) (found, tt) in
+          let messages : MessagesOf o.before.configuration (run image grant 1 o.earlier).flight (m ∷ []) = subst (λ (ls : List Lane). MessagesOf o.before.configuration ls (m ∷ [])) (sym alone) (found, tt) in
           let fit = comes.fits kind in
           let a = sum_both kind r.before (y ∷ []) in
           let b = sum_both kind r.before (y ∷ cs) in
           let c = sum_both kind (y ∷ []) cs in
           let g : sum (map (allowed kind) comes.costs) ≡ sum (map (allowed kind) (r.before ++ y ∷ cs)) = ap (λ (zs : List Cost). sum (map (allowed kind) zs)) e in
-          all_paid file image layout grant (spent_in_run image grant 1 o.earlier) s (run-sound image grant 1 o.earlier) o.before kind r.before (m ∷ []) (y ∷ []) r.bounds messages (x.4, tt)
+          all_paid file image layout grant (spent_in_run image grant 1 o.earlier) (run image grant 1 o.earlier) (run-sound image grant 1 o.earlier) o.before kind r.before (m ∷ []) (y ∷ []) r.bounds messages (x.4, tt)
           (omega (arith, fit, a, b, c, g)) o.is_short
 
   never_out : (picks : List ℕ) → (run image grant 1 picks).out_of ≡ None

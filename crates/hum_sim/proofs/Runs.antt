@@ -34,11 +34,10 @@ use Rattle.hum_sim.specs.Program.{HoldsFile}
 use Rattle.hum_sim.specs.Journal.{EntryAs, HasRunOut, AreDecided}
 use Rattle.hum_sim.specs.Legal.{IsItsTurn, IsLegal}
 use Rattle.hum_sim.specs.Within.{IsWithin, AreWithin}
-use Rattle.hum_code.specs.Reaches.{Spent}
 use Rattle.vm_turn.specs.Sound.{Sound}
 use Rattle.hum_sim.specs.File.{StandsForFile}
 use Rattle.hum_sim.specs.Turns.{AddsAnEntry, Keeps}
-use Rattle.hum_sim.specs.Runs.{FollowsItsJournal, KeepsOrder}
+use Rattle.hum_sim.specs.Runs.{FollowsItsJournal, WhatFollows}
 use Rattle.hum_sim.proofs.Lists.{each_append}
 use Rattle.hum_sim.proofs.Boots.{boot_stands}
 use Rattle.hum_sim.proofs.Order.{Moves, moves, Gone, gone_next, gone_now, in_order, counted, found_number, found_every, Given, given_next}
@@ -235,8 +234,8 @@ module _ (file : List Stmt) (image : RomImage) (layout : Layout) (grant : Amount
   lanes_stay holds picks = (ran holds picks).lanes_are
 
 -- what follows of the order
-pub keeps_order : (file : List Stmt) (image : RomImage) (layout : Layout) (spent : Spending) (s : State) (f : FollowsItsJournal file image layout spent s) → KeepsOrder file image layout spent s f
-keeps_order file image layout spent s f = record {
+pub what_follows : (file : List Stmt) (image : RomImage) (layout : Layout) (spent : Spending) (s : State) (f : FollowsItsJournal file image layout spent s) → WhatFollows file image layout spent s f
+what_follows file image layout spent s f = record {
   output = f.stands.stands.output ∙ sym ((program_means file).seen f.configuration f.stands.of_program f.stands.alike).output;
   in_order = in_order humus s.lanes (meaning.opening file) f.journal f.configuration f.follows f.legal (omega arith, tt);
   numbered = λ one. counted humus s.lanes one 0 (meaning.opening file) f.journal f.configuration f.follows f.legal (refl, refl);

@@ -42,7 +42,7 @@ use Rattle.hum_sim.proofs.Lanes.{lane_stands}
 use Rattle.hum_sim.proofs.Causes.{rest_means, rest_comes, sum_first, within_kind, none_fit}
 use Rattle.hum_sim.proofs.Outs.{OutNow, turn_out}
 use Rattle.hum_sim.proofs.Files.{none_fits_back}
-use Rattle.hum_sim.proofs.Runs.{follows_journal, lanes_stay, keeps_order}
+use Rattle.hum_sim.proofs.Runs.{follows_journal, lanes_stay, what_follows}
 
 -- ---- sums
 
@@ -92,13 +92,13 @@ nothing_changes s kind e (p ∷ picks) =
 
 out_at : (s : State) (picks : List ℕ) (kind : Quota) → s.out_of ≡ None → (after s picks).out_of ≡ Some kind → OutAt s picks kind
 out_at s [] kind running out = absurd (none-some kind (sym running ∙ out))
-out_at s (p ∷ picks) kind running out = by (turn s p).0.out_of refl
+out_at s (p ∷ picks) kind running out = by (turn s p).0.out_of refl (λ e. out_at (turn s p).0 picks kind e out)
   where
-    by : (o : Option Quota) → (turn s p).0.out_of ≡ o → OutAt s (p ∷ picks) kind
-    by None e =
-        let x = out_at (turn s p).0 picks kind e out in
+    by : (o : Option Quota) → (turn s p).0.out_of ≡ o → ((turn s p).0.out_of ≡ None → OutAt (turn s p).0 picks kind) → OutAt s (p ∷ picks) kind
+    by None e more =
+        let x = more e in
         record { earlier = p ∷ x.earlier; pick = x.pick; later = x.later; picks_are = ap (λ (ps : List ℕ). p ∷ ps) x.picks_are; running = x.running; out = x.out; stays = x.stays }
-    by (Some k) e =
+    by (Some k) e more =
         let same = nothing_changes (turn s p).0 k e picks in
         record { earlier = []; pick = p; later = picks; picks_are = refl; running = running; out = sym (ap (λ (t : State). t.out_of) same) ∙ out; stays = same }
 
@@ -187,7 +187,7 @@ module _ (file : List Stmt) (image : RomImage) (layout : Layout) (holds : HoldsF
       let at_rest = ((program_means file).seen f.configuration h.of_program h.alike).at_rest in
       record {
         follows = f;
-        order = keeps_order file image layout spent s f;
+        order = what_follows file image layout spent s f;
         comes_to_rest = λ pick running none. rest_comes layout image h.holds.holds_program spent s h.of_program (run-sound image grant lanes picks) h.stands running (at_rest.0 none) pick;
         nothing_pending = nothing_left picks;
         why_out = why_out picks;

@@ -46,7 +46,7 @@ pub record FollowsItsJournal (file : List Stmt) (image : RomImage) (layout : Lay
 
 -- What follows from that: the output is the configuration's; messages to one target finish in the order of their numbers, and with one lane
 -- the journal's numbers are 0, 1, 2 and so on.
-pub record KeepsOrder (file : List Stmt) (image : RomImage) (layout : Layout) (spent : Spending) (s : State) (f : FollowsItsJournal file image layout spent s) : Type 0 where
+pub record WhatFollows (file : List Stmt) (image : RomImage) (layout : Layout) (spent : Spending) (s : State) (f : FollowsItsJournal file image layout spent s) : Type 0 where
   pub output : s.output ≡ f.configuration.output
   pub in_order : InOrderOfNumbers humus (after.opening file) f.journal f.configuration f.follows
   pub numbered : s.lanes ≡ 1 → NumberedFrom 0 f.journal
@@ -96,7 +96,7 @@ module _ (file : List Stmt) (image : RomImage) (layout : Layout) (grant : Amount
   -- root ran out only for its cause, and never where the bounds fit at each moment.
   pub record RunStands (picks : List ℕ) : Type 0 where
     pub follows : FollowsItsJournal file image layout (spent_in_run image grant lanes picks) (run image grant lanes picks)
-    pub order : KeepsOrder file image layout (spent_in_run image grant lanes picks) (run image grant lanes picks) follows
+    pub order : WhatFollows file image layout (spent_in_run image grant lanes picks) (run image grant lanes picks) follows
     pub comes_to_rest : (pick : ℕ) → (run image grant lanes picks).out_of ≡ None → follows.configuration.pending ≡ [] → (turn (run image grant lanes picks) pick).1 ≡ Rest
     pub nothing_pending : (pick : ℕ) → 1 ≤ lanes → (turn (run image grant lanes picks) pick).1 ≡ Rest → follows.configuration.pending ≡ []
     pub why_out : (kind : Quota) → (run image grant lanes picks).out_of ≡ Some kind → RanOutBecause picks kind
