@@ -57,10 +57,10 @@ module _ {L : Parts} where
   configuration_of other (Failed code sends c) = c
   configuration_of other Open = other
 
-  closed_as : (d e : Delivery L) → d ≡ e → IsClosed e → IsClosed d
+  pub closed_as : (d e : Delivery L) → d ≡ e → IsClosed e → IsClosed d
   closed_as d e is h = subst IsClosed (sym is) h
 
-  the_message : (x y : Option (Message L)) (m n : Message L) → x ≡ Some m → y ≡ Some n → x ≡ y → m ≡ n
+  pub the_message : (x y : Option (Message L)) (m n : Message L) → x ≡ Some m → y ≡ Some n → x ≡ y → m ≡ n
   the_message x y m n a b e = ap (elim [ Some z ↦ z | None ↦ m ]) (sym a ∙ e ∙ b)
 
 module _ {L : Parts} (language : Language L) (lawful : Lawful language) where

@@ -8,6 +8,8 @@ pub mod Within
 pub mod WithinLaw
 pub mod NamedWithin
 pub mod SoundLaw
+pub mod Coded
+pub mod CodedNames
 pub mod Plain
 mod Runs
 mod Examples

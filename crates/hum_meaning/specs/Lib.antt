@@ -17,4 +17,5 @@ pub mod Deliver
 pub mod After
 pub mod Sound
 pub mod Laws
+pub mod Codes
 pub mod Scope

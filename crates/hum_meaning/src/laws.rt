@@ -1,6 +1,7 @@
 // What is so of every program.
 
 ghost use Rattle.hum_meaning.specs.Laws.{EvaluationStays, MatchingStays, ExecutionStays, DepthIsEnough, DeliveriesStay, JournalsDecide, MessagesHaveTargets, EventsKeepSoundness, ReachableConfigurationsAreSound, EachNameIsJudged};
+ghost use Rattle.hum_meaning.specs.Codes.{FailuresHaveCodes};
 
 /// What s steps decide of an expression, s + j steps decide so, with j more steps left.
 pub fn evaluation_stays()
@@ -50,4 +51,9 @@ pub fn reachable_configurations_are_sound()
 /// The scope rule has one verdict for each name of a file, in the order in which they are spelled.
 pub fn each_name_is_judged()
     ensures { EachNameIsJudged }
+{}
+
+/// What an actor does fails with one of the codes 1 to 7, and a device that refuses with 8: evaluation, matching, execution and deliveries.
+pub fn failures_have_codes()
+    ensures { FailuresHaveCodes }
 {}

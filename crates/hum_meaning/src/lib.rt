@@ -13,7 +13,8 @@
 //! configuration at most: `journals_decide`. The depth to which the definitions go decides nothing:
 //! `depth_is_enough`. Events keep configurations sound (`events_keep_soundness`), so each that a journal leads to is
 //! sound: `reachable_configurations_are_sound`. In a sound one each pending message has a target:
-//! `messages_have_targets`. The scope rule judges each name once: `each_name_is_judged`.
+//! `messages_have_targets`. What fails has one of the codes of failures: `failures_have_codes`. The scope rule judges
+//! each name once: `each_name_is_judged`.
 //!
 //! Programs that are worked out by computation stand in `proofs/Examples.antt`, `proofs/BuiltInExamples.antt`,
 //! `proofs/EventExamples.antt` and, for the scope rule, `proofs/ScopeExamples.antt`.
@@ -25,6 +26,6 @@ mod laws;
 pub use cause::ScopeCause;
 pub use laws::{
     deliveries_stay, depth_is_enough, each_name_is_judged, evaluation_stays, events_keep_soundness,
-    execution_stays, journals_decide, matching_stays, messages_have_targets,
+    execution_stays, failures_have_codes, journals_decide, matching_stays, messages_have_targets,
     reachable_configurations_are_sound,
 };

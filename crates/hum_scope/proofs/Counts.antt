@@ -6,6 +6,7 @@ use Rattle.hum_syntax.specs.declared.tree.Stmt.{Stmt}
 use Rattle.hum_meaning.specs.Scope.{Verdicts, verdicts, first_from, first_refused}
 use Rattle.hum_scope.specs.declared.refusal.ScopeRefused.{ScopeRefused}
 use Rattle.hum_meaning.specs.declared.cause.ScopeCause.{ScopeCause}
+use Rattle.hum_core.specs.Units.{resolved}
 use Rattle.hum_core.specs.Laws.{FileStands}
 use Rattle.hum_core.proofs.ScopedFiles.{scoped-files-stand}
 use Rattle.hum_scope.specs.declared.refusal.ScopeError.{ScopeError}
@@ -67,6 +68,7 @@ told_none None h = refl
 told_none (Some first) h = absurd h
 
 -- a file that is accepted stands for its numbered tree
-pub accepted_stands : (file : List Stmt) (r : Result (Unit {0}) ScopeError) → Told (first_refused file) r → r ≡ Ok tt → FileStands file
+pub accepted_stands : (file : List Stmt) (r : Result (Unit {0}) ScopeError) → Told (first_refused file) r → r ≡ Ok tt
+    → FileStands file (resolved file)
 accepted_stands file r h e =
     scoped-files-stand file ((scoped-trees file).1 (told_none (first_refused file) (subst (λ r. Told {A = Unit {0}} (first_refused file) r) e h)))

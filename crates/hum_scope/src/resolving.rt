@@ -3,7 +3,7 @@
 ghost use Rattle.std.specs.Prelude.{◌≡◌, IfOk};
 ghost use Rattle.hum_meaning.specs.Scope.{first_refused};
 ghost use Rattle.hum_core.specs.Units.{resolved};
-ghost use Rattle.hum_core.specs.Laws.{FileStands};
+ghost use Rattle.hum_core.specs.Laws.{FileStands, ResolvedMeansTheSame};
 ghost use Rattle.hum_scope.specs.Told.{Told};
 
 use crate::check::{check_scope, outermost};
@@ -32,14 +32,16 @@ fn units(alloc: Global, statements: &[Stmt]) -> Result<Items<CoreUnit>, AllocErr
 }
 
 /// The numbered tree of a program whose names are all bound, once and within the limit; else the first that is refused, by the number of
-/// names before it. The program stands for its numbered tree, so the two mean the same.
+/// names before it. The program stands for its numbered tree, and what stands for one another means the same: the same steps decide it, with
+/// outcomes that are alike, and messages are delivered alike.
 ///
 /// Only want of memory is another answer. It may be given, too, where a program has more than 2^32 - 1 names or units, or a group or a scope
 /// has more. The call takes stack for each level of the tree.
 pub fn resolve(alloc: Global, tree: &Tree) -> Result<Resolved, ScopeError>
     ensures told { Told (first_refused tree.now.statements) result }
     ensures units { IfOk result (λ r. r.units ≡ resolved tree.now.statements) }
-    ensures stands { IfOk result (λ r. FileStands tree.now.statements) }
+    ensures stands { IfOk result (λ r. FileStands tree.now.statements r.units) }
+    ensures meaning { IfOk result (λ r. ResolvedMeansTheSame r.units) }
 {
     check_scope(alloc, tree)?;
     let units = units(alloc, tree.statements.as_slice())?;
