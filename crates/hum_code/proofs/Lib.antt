@@ -47,5 +47,5 @@ pub mod Alone
 pub mod SendBounds
 pub mod Following
 pub mod Law
-pub mod PlainRows
+pub mod SentUnder
 pub mod Programs

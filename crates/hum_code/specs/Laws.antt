@@ -8,13 +8,13 @@ use Rattle.instr_table.specs.Event.{Own, Sent}
 use Rattle.instr_table.specs.Lane.{Lane, begun}
 use Rattle.instr_table.specs.Making.{NoCodeInRam}
 use Rattle.instr_table.specs.Reach.{Every}
+use Rattle.instr_table.specs.Spent.{Spent}
 use Rattle.hum_meaning.specs.Value.{Value, Env, Function}
 use Rattle.hum_meaning.specs.Action.{no_effects}
 use Rattle.hum_meaning.specs.Deliver.{respond}
 use Rattle.hum_core.specs.Numbered.{Opening}
 use Rattle.hum_core.specs.TestLists.{Tests, tests_language}
 use Rattle.hum_code.specs.Comes.{Setting}
-use Rattle.instr_table.specs.Spent.{Spent}
 use Rattle.hum_code.specs.Reaches.{Reaches}
 use Rattle.hum_code.specs.Layout.{Layout}
 use Rattle.hum_code.specs.Stands.{Stands, StandsEnv}

@@ -35,7 +35,7 @@ compiled_images_hold units boot cells fit linked = record {
   boot_is = (held units boot cells fit linked (record { rom = cells; slots = [] }) refl).1;
   file = record { statements = fit.first.statements; is = fit.first.is };
   shape = index_is (shapes_of units) 0 _ [] fit.first.stands;
-  plain = image_plain units (shapes_of units) fit boot cells linked;
+  operations = image_plain units (shapes_of units) fit boot cells linked;
 }
 
 pub programs_link : ProgramsLink

@@ -3,6 +3,7 @@ use Rattle.std.proofs.Common.{◌≡◌, refl, ℕ, suc, ◌<◌, ◌≤◌, lit
 use Rattle.std.specs.List.{AllByRecursion}
 use Rattle.cap_words.specs.Fixnums.{in_range}
 use Rattle.cap_words.specs.Text.{is_run}
+use Rattle.instr_table.specs.Reach.{Every}
 use Rattle.hum_code.proofs.Makings.{length_end}
 use Rattle.hum_emit.specs.declared.instruction.Field.{Field}
 use Rattle.hum_emit.specs.declared.instruction.Field.TheVariants.{Number, Constant, Place, Unit as UnitField, Data}
@@ -28,7 +29,7 @@ module _ (units : ℕ) where
   pub record Fair (s : Emitted) : Type 0 where
     pub instructions : AllByRecursion (Proper (length s.code) (length s.cells)) s.code
     pub cells : AllByRecursion (DatumMade (length s.code) units (length s.cells)) s.cells
-    pub no_code : AllByRecursion NoCode s.cells
+    pub no_code : Every NoCode s.cells
     pub symbols : (name : List ℕ) (n : ℕ) → s.symbols name ≡ Some n → (n < length s.cells) × (is_run name ≡ true)
     pub fixed : 232 < length s.code
 

@@ -6,6 +6,8 @@ use Rattle.std.specs.Str.{bytes_eq}
 use Rattle.std.proofs.lemmas.List.{length-append}
 use Rattle.std.proofs.lemmas.Slice.Eq.{bytes_eq-Decides}
 use Rattle.cap_words.specs.Text.{is_run}
+use Rattle.instr_table.specs.Reach.{Every}
+use Rattle.instr_table.proofs.GotWords.{every-append}
 use Rattle.hum_core.specs.declared.slot.Const.{Const}
 use Rattle.hum_core.specs.declared.slot.Const.TheVariants as const
 use Rattle.hum_emit.specs.declared.instruction.Datum.{Datum}
@@ -37,7 +39,7 @@ module _ (units : ℕ) where
         list_made size total (m ∷ more) (suc at) parts.1 (omega (arith, le)),
       )
 
-  list_data : (ps : List ℕ) (at : ℕ) → AllByRecursion NoCode (list_cells at ps)
+  list_data : (ps : List ℕ) (at : ℕ) → Every NoCode (list_cells at ps)
   list_data [] at = tt
   list_data (n ∷ []) at = (refl, tt)
   list_data (n ∷ m ∷ more) at = (refl, list_data (m ∷ more) (suc at))
@@ -48,7 +50,7 @@ module _ (units : ℕ) where
 
   -- further data
   module _ (s : Emitted) (fair : Fair units s) (ds : List Datum) (made : Cells (length s.code) (length s.cells + length ds) ds)
-      (plain : AllByRecursion NoCode ds) where
+      (plain : Every NoCode ds) where
     abbrev both : List Datum
     both = s.cells ++ ds
 
@@ -68,7 +70,7 @@ module _ (units : ℕ) where
       cells = all_end units (DatumMade (length s.code) units (length both)) s.cells ds
           (cells_more units (length s.code) (length s.code) (length s.cells) (length both) same_code more_data s.cells fair.cells)
           (cells_more units (length s.code) (length s.code) (length s.cells + length ds) (length both) same_code (let is = how_many in omega (arith, is)) ds made);
-      no_code = all_end units NoCode s.cells ds fair.no_code plain;
+      no_code = every-append NoCode s.cells ds fair.no_code plain;
       symbols = known;
       fixed = fair.fixed;
     }
@@ -117,7 +119,7 @@ module _ (units : ℕ) where
       let many = length_list (suc n) name in
       let more = length-append s.cells ds in
       let cells = symbol_made (length s.code) (n + length ds) name n (run_fits name h) (omega (arith, many)) in
-      let plain : AllByRecursion NoCode ds = (refl, list_data name (suc n)) in
+      let plain : Every NoCode ds = (refl, list_data name (suc n)) in
       let up = more_data s fair ds cells plain in
       let here : n < length (s.cells ++ ds) = omega (arith, more) in
       record {

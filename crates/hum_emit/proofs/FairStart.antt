@@ -5,6 +5,7 @@ use Rattle.std.specs.List.{AllByRecursion, list_all}
 use Rattle.std.proofs.lemmas.Bool.{ltb-true, lt-ltb}
 use Rattle.std.proofs.lemmas.List.Elements.{All-from_recursion}
 use Rattle.cap_words.specs.Fixnums.{in_range}
+use Rattle.instr_table.specs.Reach.{Every}
 use Rattle.hum_core.specs.declared.tested.TestUnit.{TestUnit}
 use Rattle.hum_code.specs.Layout.{Shape}
 use Rattle.hum_emit.specs.declared.instruction.Field.{Field}
@@ -101,7 +102,7 @@ module _ (units : ℕ) where
     ),
   )
 
-  routines_data : (number : ℕ) (places : List ℕ) → AllByRecursion NoCode (routine_cells number places)
+  routines_data : (number : ℕ) (places : List ℕ) → Every NoCode (routine_cells number places)
   routines_data number [] = tt
   routines_data number (place ∷ more) = (refl, routines_data (suc number) more)
 

@@ -9,7 +9,7 @@ use Rattle.instr_table.specs.declared.op.Op.TheVariants.{Dup, Drop, Pick, Roll, 
 use Rattle.instr_table.specs.Code.{within, passing, numbered, bare, quad_operation, alu_operation, actor_operation, named, operation}
 use Rattle.uasm_read.specs.Texts.{Name}
 use Rattle.uasm_read.specs.Links.{linked_word}
-use Rattle.hum_code.specs.Program.{IsPlainOp}
+use Rattle.hum_code.specs.Program.{IsProgramOp}
 use Rattle.hum_emit.specs.declared.instruction.Field.{Field}
 use Rattle.hum_emit.specs.declared.instruction.Field.TheVariants.{Number, Constant, Place, Unit as UnitField, Data}
 use Rattle.hum_emit.specs.Module.{operand_of}
@@ -38,7 +38,7 @@ is_used operation field = if nat_eq operation 20 then is_actors field else is_ot
 -- the operation, if there is one, is one of programs
 abbrev AllPlain : Option Op → Type 0
 AllPlain None = Unit {0}
-AllPlain (Some op) = IsPlainOp op
+AllPlain (Some op) = IsProgramOp op
 
 one_of : (b : Bool) (x y : Option Op) → AllPlain x → AllPlain y → AllPlain (if b then x else y)
 one_of true x y p q = p
@@ -48,14 +48,14 @@ other_of : (b : Bool) (x y : Option Op) → b ≡ false → AllPlain y → AllPl
 other_of true x y e q = cc
 other_of false x y e q = q
 
-mapped : (f : ℤ → Op) (o : Option ℤ) → ((z : ℤ) → IsPlainOp (f z)) → AllPlain (option_map f o)
+mapped : (f : ℤ → Op) (o : Option ℤ) → ((z : ℤ) → IsProgramOp (f z)) → AllPlain (option_map f o)
 mapped f None p = tt
 mapped f (Some z) p = p z
 
-numbered_plain : (test : ℤ → Bool) (f : ℤ → Op) (n : Option ℤ) → ((z : ℤ) → IsPlainOp (f z)) → AllPlain (numbered test f n)
+numbered_plain : (test : ℤ → Bool) (f : ℤ → Op) (n : Option ℤ) → ((z : ℤ) → IsProgramOp (f z)) → AllPlain (numbered test f n)
 numbered_plain test f n p = mapped f (passing test n) p
 
-bare_plain : (op : Op) (v : W) → IsPlainOp op → AllPlain (bare op v)
+bare_plain : (op : Op) (v : W) → IsProgramOp op → AllPlain (bare op v)
 bare_plain op v p = one_of (same_word v undef) _ _ p tt
 
 quad_plain : (o : Option ℤ) → AllPlain (quad_operation o)
@@ -138,7 +138,7 @@ named_plain words at k field h = by (nat_eq k 20) refl h
 
 -- the operation that the quad of such an instruction spells, if any
 pub instruction_plain : (words : Name → W) (at k : ℕ) (field : Field) (z : W) → is_used k field ≡ true → (op : Op)
-    → operation (record { t = Rom 9; x = Fix (pos k); y = linked_word words at (operand_of field); z = z }) ≡ Some op → IsPlainOp op
+    → operation (record { t = Rom 9; x = Fix (pos k); y = linked_word words at (operand_of field); z = z }) ≡ Some op → IsProgramOp op
 instruction_plain words at k field z h op is = subst AllPlain is (named_plain words at k field h)
 
 -- a quad of another type spells none

@@ -14,6 +14,7 @@ mod exprs;
 mod instruction;
 mod laws;
 mod module;
+mod operations;
 mod routines;
 mod rows;
 mod scope;
@@ -28,4 +29,5 @@ pub use laws::{
     labels_are_places, linked_holds, programs_link, shapes_of_programs_fit,
 };
 pub use module::module_of;
+pub use std::alloc::AllocError as NoMemory;
 pub use whole::emit;

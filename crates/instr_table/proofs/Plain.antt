@@ -19,7 +19,8 @@ use Rattle.instr_table.specs.Row.{row, row_at}
 use Rattle.instr_table.specs.ActorRows.{become_row}
 use Rattle.instr_table.specs.Lane.{Lane, values, lane_row}
 use Rattle.instr_table.specs.Making.{NoCodeInRam}
-use Rattle.instr_table.specs.Plain.{IsPlain, IsPlainCell, PlainCells, PlainEffect, PlainOutcome, PlainRowsLeaveSponsors}
+use Rattle.instr_table.specs.Reach.{Every}
+use Rattle.instr_table.specs.Plain.{IsPlain, PlainCells, PlainEffect, PlainOutcome, PlainRowsLeaveSponsors}
 use Rattle.instr_table.proofs.Authorities.{every-get}
 
 module _ (own : Own) (s : Seen) where
@@ -90,26 +91,35 @@ plain-rows own op s sheet e vs k h = row-plain own s sheet e vs k op h
 
 -- ---- wherever the code of an event stands
 
-spelled-plain : (q : Quad) → IsPlainCell q → (o : Option Op) → operation q ≡ o → (op : Op) (k : W) → with_next o q.z ≡ Some (op, k) → IsPlain op
-spelled-plain q p None e op k h = absurd (none-some (op, k) h)
-spelled-plain q p (Some x) e op k h = subst IsPlain (ap (λ (y : Op × W). y.0) (same_Some (x, q.z) (op, k) h)) (p x e)
+module _ (P : Op → Type 0) where
+  -- a cell that spells no operation but such ones
+  abbrev pub SpellsOnly : Quad → Type 0
+  SpellsOnly q = (op : Op) → operation q ≡ Some op → P op
 
-cell-plain : (o : Option Quad) → ((q : Quad) → o ≡ Some q → IsPlainCell q) → (op : Op) (k : W) → fetched_in o ≡ Some (op, k) → IsPlain op
-cell-plain None f op k h = absurd (none-some (op, k) h)
-cell-plain (Some q) f op k h = spelled-plain q (f q refl) (operation q) refl op k h
+  spelled : (q : Quad) → SpellsOnly q → (o : Option Op) → operation q ≡ o → (op : Op) (k : W) → with_next o q.z ≡ Some (op, k) → P op
+  spelled q p None e op k h = absurd (none-some (op, k) h)
+  spelled q p (Some x) e op k h = subst P (ap (λ (y : Op × W). y.0) (same_Some (x, q.z) (op, k) h)) (p x e)
 
-rom-plain : (rom : List Quad) → PlainCells rom → (n : ℕ) (q : Quad) → rom_cell rom n ≡ Some q → IsPlainCell q
-rom-plain rom all n q h = by (nat_lt n 16) h
-  where
-    by : (b : Bool) → (if b then None else slice_get rom (n - 16)) ≡ Some q → IsPlainCell q
-    by true e = absurd (none-some q e)
-    by false e = every-get IsPlainCell rom (n - 16) q all e
+  in-cell : (o : Option Quad) → ((q : Quad) → o ≡ Some q → SpellsOnly q) → (op : Op) (k : W) → fetched_in o ≡ Some (op, k) → P op
+  in-cell None f op k h = absurd (none-some (op, k) h)
+  in-cell (Some q) f op k h = spelled q (f q refl) (operation q) refl op k h
+
+  in-rom : (rom : List Quad) → Every SpellsOnly rom → (n : ℕ) (q : Quad) → rom_cell rom n ≡ Some q → SpellsOnly q
+  in-rom rom all n q h = by (nat_lt n 16) h
+    where
+      by : (b : Bool) → (if b then None else slice_get rom (n - 16)) ≡ Some q → SpellsOnly q
+      by true e = absurd (none-some q e)
+      by false e = every-get SpellsOnly rom (n - 16) q all e
+
+  -- what is fetched is such an operation
+  pub fetched-only : (s : Seen) → Every SpellsOnly s.rom → NoCodeInRam s → (w : W) (op : Op) (k : W) → fetched s w ≡ Some (op, k) → P op
+  fetched-only s p out (Fix n) op k h = cc
+  fetched-only s p out (Rom n) op k h = in-cell (rom_cell s.rom n) (λ q e. in-rom s.rom p n q e) op k h
+  fetched-only s p out (Ram n) op k h = let o = out n in absurd cc
+  fetched-only s p out (Cap n) op k h = cc
 
 pub fetched-plain : (s : Seen) → PlainCells s.rom → NoCodeInRam s → (w : W) (op : Op) (k : W) → fetched s w ≡ Some (op, k) → IsPlain op
-fetched-plain s p out (Fix n) op k h = cc
-fetched-plain s p out (Rom n) op k h = cell-plain (rom_cell s.rom n) (λ q e. rom-plain s.rom p n q e) op k h
-fetched-plain s p out (Ram n) op k h = let o = out n in absurd cc
-fetched-plain s p out (Cap n) op k h = cc
+fetched-plain = fetched-only IsPlain
 
 row_at-plain : (own : Own) (s : Seen) (sheet : List Account) (e : Effects) (vs : List W) (o : Option (Op × W)) → ((op : Op) (k : W) → o ≡ Some (op, k) → IsPlain op)
     → PlainOutcome own.sponsor s (row_at own o s sheet e vs).outcome
