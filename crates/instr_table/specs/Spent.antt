@@ -23,9 +23,3 @@ abbrev pub spent_in_kind : Quota → Spent → ℕ
 spent_in_kind Memory n = n.quads
 spent_in_kind Events n = n.events
 spent_in_kind Cycles n = n.cycles
-
--- how much of one kind an instruction of that charge costs
-abbrev pub due_in_kind : Quota → Charge → ℕ
-due_in_kind Memory c = c.quads
-due_in_kind Events c = c.events
-due_in_kind Cycles c = 1

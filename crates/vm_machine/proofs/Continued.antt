@@ -15,13 +15,14 @@ use Rattle.vm_turn.specs.Run.{after, run, picks, pick_of, drawn, drawn_after, co
 use Rattle.vm_turn.specs.Changes.{Changes}
 use Rattle.vm_turn.proofs.Changed.{turns-change}
 use Rattle.vm_turn.proofs.RunsSound.{turns-end}
+use Rattle.vm_turn.proofs.Images.{turn-rom, turn-lanes}
 use Rattle.vm_turn.proofs.Runs.{after-append, picks-next, drawn-next}
 use Rattle.vm_machine.specs.declared.parts.Parts.{Parts}
 use Rattle.vm_machine.specs.View.{state_of, unwritten}
 use Rattle.vm_machine.specs.Turns.{Takes}
 use Rattle.vm_machine.specs.Whole.{Kept}
 use Rattle.vm_machine.specs.Machine.{drawn_run, image_of, Follows}
-use Rattle.vm_machine.proofs.Unwritten.{turn-unwritten, turn-rom, turn-lanes}
+use Rattle.vm_machine.proofs.Unwritten.{turn-unwritten}
 use Rattle.vm_machine.proofs.Instructed.{few-cycles}
 use Rattle.vm_machine.proofs.Beginning.{few-events}
 

@@ -267,10 +267,12 @@ idle-made s (m ∷ ms) seen w a =
     by : Among w (made_words ms) ⊎ (Among w (made_words ms) → ⊥) → Among w (m.actor ∷ made_words ms) → IsActorSeen s m.actor → ((v : W) → Among v (made_words ms) → IsActorSeen t' v) → (Among w (made_words ms) → IsIdleIn (all_idle t' ms) w) → IsIdleIn (all_idle t' ms) w
     by (inl b) c here later rest = rest b
     by (inr f) (inr b) here later rest = absurd (f b)
-    by (inr f) (inl e) here later rest =
-        (m.code, m.state,
-        idle-other t' ms w (λ v b. let k = later v b in (k.0, k.1)) f
-        ∙ subst (λ (v : W). slot_seen t' v ≡ Some (ActorSlot m.code m.state undef)) (sym e) (altered-same s m.actor here.0 (ActorSlot m.code m.state undef) here.1))
+    by (inr f) (inl e) here later rest = (
+      m.code,
+      m.state,
+      idle-other t' ms w (λ v b. let k = later v b in (k.0, k.1)) f
+          ∙ subst (λ (v : W). slot_seen t' v ≡ Some (ActorSlot m.code m.state undef)) (sym e) (altered-same s m.actor here.0 (ActorSlot m.code m.state undef) here.1),
+    )
 
 pub settled-grows : (s : Seen) (actor : W) (e : Effects) → ((w : W) → Among w (made_words e.created) → IsActorSeen (at_actor s actor (resting e.next)) w) → Grows s (settled s actor e)
 settled-grows s actor e seen = grows-then s (at_actor s actor (resting e.next)) (settled s actor e) (resting-grows s actor e.next) (idle-grows (at_actor s actor (resting e.next)) e.created seen)

@@ -20,3 +20,9 @@ pub mod Actors
 pub mod FlightActors
 pub mod Commits
 pub mod Order
+pub mod Images
+pub mod Root
+pub mod Alone
+pub mod Rolls
+pub mod Charged
+pub mod Ended

@@ -105,7 +105,7 @@ other-whole n [] i l at d h = tt
 other-whole n (k ∷ ls) zero l at d h = ((λ e. d (ap (λ (x : Lane). x.number) (sym (some_is at)) ∙ e)), h)
 other-whole n (k ∷ ls) (suc i) l at d h = (h.0, other-whole n ls i l at d h.1)
 
-has-of : (ms xs : List Message) (n : ℕ) → Has (ms ++ xs) n → Has ms n ⊎ Has xs n
+pub has-of : (ms xs : List Message) (n : ℕ) → Has (ms ++ xs) n → Has ms n ⊎ Has xs n
 has-of [] xs n h = inr h
 has-of (m ∷ ms) xs n (inl e) = inl (inl e)
 has-of (m ∷ ms) xs n (inr h) = by (has-of ms xs n h)
@@ -120,7 +120,7 @@ nat-differs m n h e = grind (arith, nat_tests)
 nat-same : (m n : ℕ) → m ≡ n → nat_eq m n ≡ true
 nat-same m n e = grind (arith, nat_tests)
 
-has-left : (ms : List Message) (n k : ℕ) → Has (without n ms) k → (n ≡ k → ⊥) × Has ms k
+pub has-left : (ms : List Message) (n k : ℕ) → Has (without n ms) k → (n ≡ k → ⊥) × Has ms k
 has-left [] n k h = absurd h
 has-left (m ∷ ms) n k h = by (nat_eq m.number n) refl (λ g. has-left ms n k g) h
   where
@@ -129,7 +129,7 @@ has-left (m ∷ ms) n k h = by (nat_eq m.number n) refl (λ g. has-left ms n k g
     by false e f (inl g) = ((λ d. nat-differs m.number n e (g ∙ sym d)), inl g)
     by false e f (inr g) = let r = f g in (r.0, inr r.1)
 
-numbered-above : (k : ℕ) (es : List Sent) (n : ℕ) → Has (numbered_from k es) n → k ≤ n
+pub numbered-above : (k : ℕ) (es : List Sent) (n : ℕ) → Has (numbered_from k es) n → k ≤ n
 numbered-above k [] n h = absurd h
 numbered-above k (e ∷ es) n (inl d) = omega (arith, d)
 numbered-above k (e ∷ es) n (inr h) = let u = numbered-above (suc k) es n h in omega (arith, u)

@@ -4,8 +4,11 @@ pub mod Actors
 pub mod Piece
 pub mod Turn
 pub mod Run
-pub mod Spending
 pub mod Sound
+pub mod Spending
 pub mod Laws
 pub mod Changes
 pub mod Authority
+pub mod Image
+pub mod Alone
+pub mod Roll

@@ -1,5 +1,5 @@
 -- What events have spent since their dispatch: the charges of their turns.
-use Rattle.std.specs.Prelude.{ℕ, nat_eq, if◌then◌else◌, ◌%◌, List, [], ◌∷◌, length, Option, Some, None, slice_get}
+use Rattle.std.specs.Prelude.{◌≡◌, ℕ, ◌+◌, nat_eq, if◌then◌else◌, ◌%◌, List, [], ◌∷◌, length, Option, Some, None, slice_get}
 use Rattle.std.specs.List.{sum_by}
 use Rattle.quad_memory.specs.Image.{RomImage}
 use Rattle.instr_table.specs.declared.charge.Charge.{Charge}
@@ -9,9 +9,12 @@ use Rattle.instr_table.specs.Sheet.{account, short}
 use Rattle.instr_table.specs.Outcome.{Row}
 use Rattle.instr_table.specs.Lane.{Lane, lane_row}
 use Rattle.vm_sponsor.specs.declared.amounts.Amounts.{Amounts}
+use Rattle.vm_turn.specs.declared.journal.Entry.{Entry}
 use Rattle.vm_turn.specs.State.{Message, State}
 use Rattle.vm_turn.specs.Boot.{booted}
 use Rattle.vm_turn.specs.Turn.{dispatchable, turn}
+use Rattle.vm_turn.specs.Run.{run}
+use Rattle.vm_turn.specs.Sound.{spent_by_all}
 
 -- what the event of each message has spent, by the number of the message
 abbrev pub Spending : Type 0
@@ -62,6 +65,17 @@ spending_after before s (p ∷ ps) = spending_after (turn_spending before s p) (
 abbrev pub spent_in_run : RomImage → Amounts → ℕ → List ℕ → Spending
 spent_in_run image grant lanes picks = spending_after none_spent (booted image grant lanes) picks
 
--- how much of a kind these events in flight have spent
+-- how much of a kind these events in flight have spent, and those that ended with these entries
 abbrev pub spent_in_flight : Quota → Spending → List Lane → ℕ
 spent_in_flight kind spending ls = sum_by (λ (l : Lane). spent_in_kind kind (spending l.number)) ls
+
+abbrev pub spent_by_ended : Quota → Spending → List Entry → ℕ
+spent_by_ended kind spending es = sum_by (λ (e : Entry). spent_in_kind kind (spending e.message)) es
+
+-- After every run all sponsors together have spent of each kind what the events that ended and those in flight have: what an event has spent is
+-- what its sponsor paid for it.
+abbrev pub EventsSpendWhatIsPaid : Type 0
+EventsSpendWhatIsPaid =
+    (image : RomImage) (grant : Amounts) (lanes : ℕ) (picks : List ℕ) (kind : Quota)
+    → spent_by_all kind (run image grant lanes picks).sheet
+    ≡ spent_by_ended kind (spent_in_run image grant lanes picks) (run image grant lanes picks).journal + spent_in_flight kind (spent_in_run image grant lanes picks) (run image grant lanes picks).flight

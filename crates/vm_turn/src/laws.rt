@@ -2,6 +2,10 @@
 
 ghost use Rattle.vm_turn.specs.Laws.{TurnsEnd, AccountsAddUp, GrantsAreConserved, EventsStandOnce, LeastGoesFirst, OthersWait};
 ghost use Rattle.vm_turn.specs.Changes.{TurnsChange};
+ghost use Rattle.vm_turn.specs.Image.{ImagesStay, CodeStaysInImages, FlightsFitLanes};
+ghost use Rattle.vm_turn.specs.Alone.{RootStaysAlone};
+ghost use Rattle.vm_turn.specs.Roll.{RollsStand, EndedActorsRest};
+ghost use Rattle.vm_turn.specs.Spending.{EventsSpendWhatIsPaid};
 ghost use Rattle.vm_turn.specs.Authority.{EventsHaveBegun, EventsKeepAuthority, CommitsKeepAuthority};
 
 /// A machine with C cycles and E events completes at most `C + 2 (E + 1)` turns, whatever its image, its lanes and its picks: each
@@ -65,4 +69,43 @@ pub fn events_keep_authority()
 /// it created with theirs, and the targets, contents and other sponsors of the messages that it sent.
 pub fn commits_keep_authority()
     ensures { CommitsKeepAuthority }
+{}
+
+/// After every run the cells of the image are as they were.
+pub fn images_stay()
+    ensures { ImagesStay }
+{}
+
+/// After every run no RAM cell spells an operation: what is fetched comes from the image.
+pub fn code_stays_in_images()
+    ensures { CodeStaysInImages }
+{}
+
+/// After every run there are as many lanes as at boot, and no more events in flight.
+pub fn flights_fit_lanes()
+    ensures { FlightsFitLanes }
+{}
+
+/// Where no cell of the image spells an operation on sponsors the root stays the only sponsor: after every run it alone has an account, it
+/// pays for each event in flight, each message that is not finished or that such an event sent is under it, and no signal is prepared.
+pub fn root_stays_alone()
+    ensures { RootStaysAlone }
+{}
+
+/// After every run the roll names each committed actor, and no other; it names none twice, and an actor that an event in flight created is not
+/// on it. An actor of it is idle where no event in flight has it, and else busy with that event, the only one that has it. No event in flight
+/// has a device.
+pub fn rolls_stand()
+    ensures { RollsStand }
+{}
+
+/// After a turn of a run that ends an event in flight, its actor is idle, and no event in flight has it.
+pub fn ended_actors_rest()
+    ensures { EndedActorsRest }
+{}
+
+/// What an event has spent is the sum of the charges of its turns: after every run all sponsors together have spent of each kind what the events
+/// that ended and those in flight have.
+pub fn events_spend_what_is_paid()
+    ensures { EventsSpendWhatIsPaid }
 {}
