@@ -31,11 +31,13 @@ use Rattle.hum_code.specs.Layout.{Layout}
 use Rattle.hum_code.specs.Reaches.{Reaches, dispatched}
 use Rattle.hum_code.proofs.Standing.{longer_same, stands_later}
 use Rattle.hum_code.specs.Program.{HoldsProgram}
-use Rattle.hum_sim.specs.Standing.{NoEventOf, BehaviourStands, ActorStands, MessageStands, LaneStands, IsFirst, StateStands}
+use Rattle.hum_sim.specs.Standing.{BehaviourStands, ActorStands, MessageStands, LaneStands, IsFirst, StateStands}
+use Rattle.vm_turn.specs.Roll.{NoEventOf}
 use Rattle.hum_sim.proofs.Lists.{every_both, none_inside, each_by}
 use Rattle.hum_sim.proofs.Pending.{Pending, message_number, message_without, first_without, each_without}
-use Rattle.hum_sim.proofs.Stores.{actor_other, shown_actor, busy_seen, busy_grows}
-use Rattle.hum_sim.proofs.Root.{code_out_alike}
+use Rattle.hum_sim.proofs.Stores.{shown_actor, busy_seen}
+use Rattle.vm_turn.proofs.Actors.{actor-other, busy-grows}
+use Rattle.hum_sim.proofs.Stores.{code_out_alike}
 use Rattle.hum_sim.proofs.Growth.{answers_later, behaviour_later, actor_later, message_later, lane_later}
 use Rattle.hum_sim.proofs.Lanes.{other_every}
 use Rattle.hum_sim.proofs.Choosing as choosing
@@ -118,7 +120,7 @@ module _ (lay : Layout) (rom_of : RomImage) (program : HoldsProgram rom_of.boot 
       (ap (λ (o : Option Slot). behaviour_in o) actor.there)
 
   grows : Grows s.store store'
-  grows = busy_grows s.store target actor.code actor.state actor.mark m.number actor.there
+  grows = busy-grows s.store target m.number
 
   rom_same : store'.rom ≡ s.store.rom
   rom_same = (alike-busy s.store target m.number).rom_is
@@ -127,7 +129,7 @@ module _ (lay : Layout) (rom_of : RomImage) (program : HoldsProgram rom_of.boot 
   busy_there = busy_seen s.store target actor.code actor.state actor.mark m.number actor.there
 
   other_there : (w : W) → (w ≡ target → ⊥) → slot_seen store' w ≡ slot_seen s.store w
-  other_there w d = actor_other s.store target (busy m.number) w d
+  other_there w d = actor-other s.store target (busy m.number) w d
 
   an_actor : (j : ℕ) (u : W) (b : Behaviour Tests) → slice_get s.roll j ≡ Some u → ActorStands lay s.store s.roll s.flight u b → ActorStands lay store' s.roll flight' u b
   an_actor j u b at x = by (word_cases u target)
@@ -182,10 +184,10 @@ module _ (lay : Layout) (rom_of : RomImage) (program : HoldsProgram rom_of.boot 
   pub dispatch_stands : device_of target ≡ None → FlightSound begun_state → Targets begun_state → StateStands lay rom_of.cells spent' begun_state c
   dispatch_stands none events targets = record {
     rom_is = rom_same ∙ h.rom_is;
-    roll = record {
-      actors = each_by (ActorStands lay s.store s.roll s.flight) (ActorStands lay store' s.roll flight') s.roll c.behaviours an_actor h.roll.actors;
-      once = h.roll.once;
-      front = h.roll.front;
+    behaviours = record {
+      actors = each_by (ActorStands lay s.store s.roll s.flight) (ActorStands lay store' s.roll flight') s.roll c.behaviours an_actor h.behaviours.actors;
+      once = h.behaviours.once;
+      front = h.behaviours.front;
     };
     messages = each_by (MessageStands lay s.store s.roll) (MessageStands lay store' s.roll) s.messages c.pending a_message h.messages;
     next_number = h.next_number;
@@ -247,7 +249,7 @@ module _ (lay : Layout) (rom_of : RomImage) (program : HoldsProgram rom_of.boot 
       → StateStands lay rom_of.cells spent' (delivered s m.number end bytes) (printed_to bytes)
   device_stands end bytes events targets = record {
     rom_is = h.rom_is;
-    roll = record { actors = h.roll.actors; once = h.roll.once; front = h.roll.front };
+    behaviours = record { actors = h.behaviours.actors; once = h.behaviours.once; front = h.behaviours.front };
     messages =
         subst (λ (n : ℕ). Each (MessageStands lay s.store s.roll) (machine.without m.number s.messages) (without n c.pending)) stands.number
         (each_without (MessageStands lay s.store s.roll) (λ x q r. r.number) m.number s.messages c.pending h.messages);

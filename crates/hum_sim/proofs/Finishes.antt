@@ -38,11 +38,13 @@ use Rattle.hum_code.specs.Layout.{Layout}
 use Rattle.hum_code.specs.Stands.{MadeStands, SentStands, NextStands, EffectsStand}
 use Rattle.hum_code.proofs.Standing.{Longer, longer_same, longer_by, stands_later}
 use Rattle.hum_code.specs.Program.{HoldsProgram}
-use Rattle.hum_sim.specs.Standing.{AnswersStand, ActorStands, MessageStands, LaneStands, RootAlone, IsFirst, StateStands}
+use Rattle.hum_sim.specs.Standing.{AnswersStand, ActorStands, MessageStands, LaneStands, IsFirst, StateStands}
+use Rattle.vm_turn.specs.Alone.{RootAlone}
 use Rattle.hum_sim.proofs.Lists.{every_both, every_with, removed_only, get_append_left, one_there, each_append, each_at, each_by, each_length, each_set}
 use Rattle.hum_sim.proofs.Pending.{Pending, message_number, message_append, message_without, first_append, first_without, each_without}
-use Rattle.hum_sim.proofs.Stores.{actor_other, next_code, next_state, resting_seen, resting_grows, Unborn, idle_other, idle_grows, idle_seen, made_among}
-use Rattle.hum_sim.proofs.Root.{code_out_alike}
+use Rattle.hum_sim.proofs.Stores.{next_code, next_state, resting_seen, Unborn, idle_other, idle_grows, idle_seen, made_among}
+use Rattle.vm_turn.proofs.Actors.{actor-other, resting-grows}
+use Rattle.hum_sim.proofs.Stores.{code_out_alike}
 use Rattle.hum_sim.proofs.Growth.{answers_later, actor_later, message_later, lane_later}
 use Rattle.hum_sim.proofs.Lanes.{distinct_by, at_among, both_once, is_actor, lane_stands, others_numbers, others_actors, actor_among}
 use Rattle.hum_sim.proofs.Dispatches.{Targets}
@@ -124,7 +126,7 @@ module _ (lay : Layout) (rom_of : RomImage) (program : HoldsProgram rom_of.boot 
 
   target : ActorStands lay s.store s.roll s.flight a (Answers f.behaviour)
   target =
-      let b = each_at (ActorStands lay s.store s.roll s.flight) s.roll c.behaviours f.message.target a h.roll.actors f.actor_is in
+      let b = each_at (ActorStands lay s.store s.roll s.flight) s.roll c.behaviours f.message.target a h.behaviours.actors f.actor_is in
       subst (ActorStands lay s.store s.roll s.flight a) (same_Some b.0 (Answers f.behaviour) (sym b.1 ∙ f.behaves)) b.2
 
   -- no actor of the roll was created by it
@@ -136,18 +138,18 @@ module _ (lay : Layout) (rom_of : RomImage) (program : HoldsProgram rom_of.boot 
 
   mid_unborn : Unborn mid x.created
   mid_unborn = record {
-    are = λ w m. actor_other s.store a (resting x.next) w (λ d. not_made a a_on (subst (λ (v : W). Among v (made_words x.created)) d m)) ∙ unborn.are w m;
+    are = λ w m. actor-other s.store a (resting x.next) w (λ d. not_made a a_on (subst (λ (v : W). Among v (made_words x.created)) d m)) ∙ unborn.are w m;
     once = unborn.once;
   }
 
   other_there : (w : W) → (w ≡ a → ⊥) → (Among w (made_words x.created) → ⊥) → slot_seen store' w ≡ slot_seen s.store w
-  other_there w d n = idle_other mid x.created w mid_unborn n ∙ actor_other s.store a (resting x.next) w d
+  other_there w d n = idle_other mid x.created w mid_unborn n ∙ actor-other s.store a (resting x.next) w d
 
   own_there : slot_seen store' a ≡ Some (ActorSlot (next_code x.next target.code) (next_state x.next target.state) undef)
   own_there = idle_other mid x.created a mid_unborn (not_made a a_on) ∙ resting_seen s.store a target.code target.state target.mark x.next target.there
 
   grows : Grows s.store store'
-  grows = grows-then s.store mid store' (resting_grows s.store a target.code target.state target.mark x.next target.there) (idle_grows mid x.created mid_unborn)
+  grows = grows-then s.store mid store' (resting-grows s.store a x.next) (idle_grows mid x.created mid_unborn)
 
   rom_same : store'.rom ≡ s.store.rom
   rom_same = (alike-settled s.store a x).rom_is
@@ -165,7 +167,7 @@ module _ (lay : Layout) (rom_of : RomImage) (program : HoldsProgram rom_of.boot 
   -- ---- actors
 
   on_roll : Distinct s.roll
-  on_roll = distinct_by s.roll h.roll.once
+  on_roll = distinct_by s.roll h.behaviours.once
 
   an_actor : (j : ℕ) (u : W) (b : Behaviour Tests) → (j ≡ f.message.target → ⊥) → slice_get s.roll j ≡ Some u → ActorStands lay s.store s.roll s.flight u b → ActorStands lay store' roll' flight' u b
   an_actor j u b d there y =
@@ -187,7 +189,7 @@ module _ (lay : Layout) (rom_of : RomImage) (program : HoldsProgram rom_of.boot 
   no_device w u =
       let on : List W → Type 0 = λ (ws : List W). (v : W) → Among v ws → (slot_seen s.store v ≡ Some UnbornSlot → ⊥) in
       let all : on s.roll = λ v m k. let y = is_actor lay rom_of program spent s c ok h v m in let z = y.3 in absurd cc in
-      let front : on (first_actor ∷ println_device ∷ say_device ∷ h.roll.front.0) = subst on h.roll.front.1 all in
+      let front : on (first_actor ∷ println_device ∷ say_device ∷ h.behaviours.front.0) = subst on h.behaviours.front.1 all in
       let one : w ≡ println_device → ⊥ = λ d. front println_device (inr (inl refl)) (ap (λ (v : W). slot_seen s.store v) (sym d) ∙ u) in
       let two : w ≡ say_device → ⊥ = λ d. front say_device (inr (inr (inl refl))) (ap (λ (v : W). slot_seen s.store v) (sym d) ∙ u) in
       rw (word_other w println_device one, word_other w say_device two) refl
@@ -205,7 +207,7 @@ module _ (lay : Layout) (rom_of : RomImage) (program : HoldsProgram rom_of.boot 
   actors' : Each (ActorStands lay store' roll' flight') roll' c'.behaviours
   actors' =
       let first = each_set (ActorStands lay s.store s.roll s.flight) (ActorStands lay store' roll' flight') s.roll c.behaviours f.message.target a (Answers (after f.behaviour e.next)) f.actor_is
-      an_actor its_actor h.roll.actors in
+      an_actor its_actor h.behaviours.actors in
       let second = each_made (MadeStands lay s.store roll') (ActorStands lay store' roll' flight') e.created x.created made_actor eff.created in
       each_append (ActorStands lay store' roll' flight') s.roll (replaced c.behaviours f.message.target e.next) (made_words x.created) (map Answers e.created)
       (subst (Each (ActorStands lay store' roll' flight') s.roll) (sym (replaced_is c.behaviours f.message.target f.behaviour e.next f.behaves)) first) second
@@ -245,10 +247,10 @@ module _ (lay : Layout) (rom_of : RomImage) (program : HoldsProgram rom_of.boot 
       → StateStands lay rom_of.cells spent' (record (finish s i l sheet x end) { out_of = out }) c'
   finish_stands end sheet out alone events targets = record {
     rom_is = rom_same ∙ h.rom_is;
-    roll = record {
+    behaviours = record {
       actors = actors';
-      once = both_once s.roll (made_words x.created) h.roll.once unborn.once not_made;
-      front = (h.roll.front.0 ++ made_words x.created, ap (λ (ws : List W). ws ++ made_words x.created) h.roll.front.1);
+      once = both_once s.roll (made_words x.created) h.behaviours.once unborn.once not_made;
+      front = (h.behaviours.front.0 ++ made_words x.created, ap (λ (ws : List W). ws ++ made_words x.created) h.behaviours.front.1);
     };
     messages = messages';
     next_number = let n = each_length (SentStands lay s.store roll') e.sent x.sent eff.sent in omega (arith, n, h.next_number);

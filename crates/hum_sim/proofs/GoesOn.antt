@@ -32,12 +32,16 @@ use Rattle.hum_code.specs.Layout.{Layout}
 use Rattle.hum_code.specs.Reaches.{Reaches, stepped}
 use Rattle.hum_code.proofs.Standing.{longer_same}
 use Rattle.hum_code.specs.Program.{HoldsProgram}
-use Rattle.hum_sim.specs.Standing.{NoEventOf, ActorStands, MessageStands, LaneStands, RootAlone, IsFirst, StateStands}
+use Rattle.hum_sim.specs.Standing.{ActorStands, MessageStands, LaneStands, IsFirst, StateStands}
+use Rattle.vm_turn.specs.Alone.{RootAlone}
+use Rattle.vm_turn.specs.Roll.{NoEventOf}
 use Rattle.hum_sim.proofs.Lists.{every_both, every_set, each_by}
 use Rattle.hum_sim.proofs.Pending.{Pending}
-use Rattle.hum_sim.proofs.Stores.{going_seen, going_rom}
-use Rattle.hum_code.proofs.PlainRows.{PlainEffect, PlainOutcome, fetched_plain, row_at_plain, plain_sheet}
-use Rattle.hum_sim.proofs.Root.{root_spends, only_root}
+use Rattle.vm_turn.proofs.Actors.{going-seen, going-rom}
+use Rattle.instr_table.specs.Plain.{PlainCells, PlainEffect, PlainOutcome}
+use Rattle.instr_table.proofs.Plain.{lane-plain, plain-sheet}
+use Rattle.hum_code.proofs.Programs.{plain_cells}
+use Rattle.vm_turn.proofs.Root.{root-spends, only-root}
 use Rattle.hum_sim.proofs.Growth.{actor_later, message_later, lane_later}
 use Rattle.hum_sim.proofs.Lanes.{lane_stands, others_numbers}
 use Rattle.hum_sim.proofs.Dispatches.{Targets}
@@ -70,21 +74,18 @@ module _ (lay : Layout) (rom_of : RomImage) (program : HoldsProgram rom_of.boot 
   grows = shown-stays s.store l.stack g
 
   rom_same : store'.rom ≡ s.store.rom
-  rom_same = going_rom s.store l.stack g
+  rom_same = going-rom s.store l.stack g
 
-  pub plain : PlainEffect l.own.sponsor g.effect
-  plain =
-      subst (PlainOutcome l.own.sponsor) goes
-      (row_at_plain l.own s.store s.sheet l.effects (values l.stack) (fetched s.store l.code)
-      (λ op k e. fetched_plain rom_of.cells s.store program.plain h.rom_is h.code_out l.code op k e))
+  pub plain : PlainEffect l.own.sponsor s.store g.effect
+  plain = subst (PlainOutcome l.own.sponsor s.store) goes (lane-plain s.store (subst PlainCells (sym h.rom_is) (plain_cells program)) h.code_out s.sheet l)
 
   an_actor : (j : ℕ) (u : W) (b : Behaviour Tests) → slice_get s.roll j ≡ Some u → ActorStands lay s.store s.roll s.flight u b → ActorStands lay store' s.roll flight' u b
   an_actor j u b a x =
       actor_later lay s.store store' s.roll s.roll grows (longer_same s.roll) s.flight flight' u b
-      (going_seen s.store l.stack g u _ x.there ∙ sym x.there) (λ r. rests_set u s.flight i l new at refl r) x
+      (going-seen s.store l.stack g u _ x.there ∙ sym x.there) (λ r. rests_set u s.flight i l new at refl r) x
 
   a_message : (j : ℕ) (y : Message) (q : Pending) → slice_get s.messages j ≡ Some y → MessageStands lay s.store s.roll y q → MessageStands lay store' s.roll y q
-  a_message j y q a v = message_later lay s.store store' s.roll s.roll grows (longer_same s.roll) y q (going_seen s.store l.stack g y.event _ v.there ∙ sym v.there) v
+  a_message j y q a v = message_later lay s.store store' s.roll s.roll grows (longer_same s.roll) y q (going-seen s.store l.stack g y.event _ v.there ∙ sym v.there) v
 
   other : (k : Lane) → (k.number ≡ l.number → ⊥) → LaneStands lay s.store s.roll c spent k → LaneStands lay store' s.roll c spent' k
   other k d x = lane_later lay s.store store' s.roll s.roll grows (longer_same s.roll) c c spent spent' k rom_same x x.pending x.first x.behaves (rw (ne_eqb k.number l.number d) refl)
@@ -111,10 +112,10 @@ module _ (lay : Layout) (rom_of : RomImage) (program : HoldsProgram rom_of.boot 
   pub goes_on_stands : FlightSound gone_state → Targets gone_state → StateStands lay rom_of.cells spent' gone_state c
   goes_on_stands events targets = record {
     rom_is = rom_same ∙ h.rom_is;
-    roll = record {
-      actors = each_by (ActorStands lay s.store s.roll s.flight) (ActorStands lay store' s.roll flight') s.roll c.behaviours an_actor h.roll.actors;
-      once = h.roll.once;
-      front = h.roll.front;
+    behaviours = record {
+      actors = each_by (ActorStands lay s.store s.roll s.flight) (ActorStands lay store' s.roll flight') s.roll c.behaviours an_actor h.behaviours.actors;
+      once = h.behaviours.once;
+      front = h.behaviours.front;
     };
     messages = each_by (MessageStands lay s.store s.roll) (MessageStands lay store' s.roll) s.messages c.pending a_message h.messages;
     next_number = h.next_number;
@@ -130,7 +131,7 @@ module _ (lay : Layout) (rom_of : RomImage) (program : HoldsProgram rom_of.boot 
       in_turn = λ one. every_set (IsFirst lay c) s.flight i new (every-removed (IsFirst lay c) s.flight i (h.flight.in_turn one)) (every-get (IsFirst lay c) s.flight i l (h.flight.in_turn one) at);
     };
     root =
-        subst (λ (rows : List Account). RootAlone rows s.out_of) (sym (plain_sheet (spend s.sheet l.own.sponsor due) l.own.sponsor g.effect plain))
-        (root_spends s.sheet s.out_of h.root l.own.sponsor due f.sponsor);
+        subst (λ (rows : List Account). RootAlone rows s.out_of) (sym (plain-sheet (spend s.sheet l.own.sponsor due) l.own.sponsor s.store g.effect plain))
+        (root-spends s.sheet s.out_of h.root l.own.sponsor due f.sponsor);
     code_out = keeps-code_out s.store s.sheet l g goes h.code_out;
   }

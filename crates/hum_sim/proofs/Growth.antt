@@ -15,9 +15,10 @@ use Rattle.hum_code.specs.Layout.{Layout}
 use Rattle.hum_code.specs.Opening.{Devices}
 use Rattle.hum_code.specs.Reaches.{Reaches, others}
 use Rattle.hum_code.proofs.Standing.{Longer, stands_later}
-use Rattle.hum_sim.specs.Standing.{first_to, NoEventOf, AnswersStand, BehaviourStands, ActorStands, MessageStands, LaneStands}
+use Rattle.hum_sim.specs.Standing.{first_to, AnswersStand, BehaviourStands, ActorStands, MessageStands, LaneStands}
+use Rattle.vm_turn.specs.Roll.{NoEventOf}
 use Rattle.hum_sim.proofs.Pending.{Pending}
-use Rattle.hum_sim.proofs.Stores.{same_grows}
+use Rattle.vm_turn.proofs.Actors.{same-grows}
 
 module _ (lay : Layout) (s t : Seen) (r r' : List W) (g : Grows s t) (h : Longer r r') where
   devices_later : (w : W) → Devices lay s r w → Devices lay t r' w
@@ -79,14 +80,14 @@ module _ (lay : Layout) (s t : Seen) (r r' : List W) (g : Grows s t) (h : Longer
       rom_is = f.begins.rom_is ∙ sym rom;
       shown = f.begins.shown;
       answers = answers_base f.base l.own.actor l.own.code l.own.state f.behaviour f.begins.answers;
-      message = stands_later lay f.base f.base r r' (same_grows f.base) h l.own.message f.message.value f.begins.message;
+      message = stands_later lay f.base f.base r r' (same-grows f.base) h l.own.message f.message.value f.begins.message;
     };
     reached = subst (λ (n : Spent). Reaches f.base (begun l.number l.own) t l n) (sym spends) (others f.reached g);
     sponsor = f.sponsor;
   }
     where
       answers_base : (b : Seen) (a code state : W) (v : Value Tests) → AnswersStand lay b r a code state v → AnswersStand lay b r' a code state v
-      answers_base b a code state v (inl p) = inl (p.0, stands_later lay b b r r' (same_grows b) h state v p.1)
+      answers_base b a code state v (inl p) = inl (p.0, stands_later lay b b r r' (same-grows b) h state v p.1)
       answers_base b a code state v (inr p) = inr (h.keeps 0 a p.0, p.1, devices_base p.2, p.3)
         where
           devices_base : Devices lay b r state → Devices lay b r' state
@@ -97,6 +98,6 @@ module _ (lay : Layout) (s t : Seen) (r r' : List W) (g : Grows s t) (h : Longer
             behind_second = d.behind_second;
             begins = d.begins;
             goes_on = d.goes_on;
-            first_stands = stands_later lay b b r r' (same_grows b) h d.first _ d.first_stands;
-            second_stands = stands_later lay b b r r' (same_grows b) h d.second _ d.second_stands;
+            first_stands = stands_later lay b b r r' (same-grows b) h d.first _ d.first_stands;
+            second_stands = stands_later lay b b r r' (same-grows b) h d.second _ d.second_stands;
           }

@@ -37,20 +37,21 @@ use Rattle.hum_code.specs.Layout.{Layout}
 use Rattle.hum_code.specs.Stands.{DataStand}
 use Rattle.hum_code.specs.Program.{HoldsProgram}
 use Rattle.hum_sim.specs.Journal.{EndsAs, HasRunOut}
-use Rattle.hum_sim.specs.Standing.{first_to, ActorStands, LaneStands, RootAlone, IsFirst, StateStands}
+use Rattle.hum_sim.specs.Standing.{first_to, ActorStands, LaneStands, IsFirst, StateStands}
+use Rattle.vm_turn.specs.Alone.{RootAlone}
 use Rattle.hum_sim.specs.Legal.{IsItsTurn}
 use Rattle.hum_sim.specs.Within.{SpentWithin}
 use Rattle.hum_sim.proofs.Next.{EntersLegally, Next}
 use Rattle.hum_sim.proofs.Texts.{writes_same}
 use Rattle.hum_sim.proofs.Pending.{Pending, head_found, first_least, head_least}
 use Rattle.hum_sim.proofs.Stores.{Unborn}
-use Rattle.hum_sim.proofs.Root.{root_spends, root_stops, root_prepared}
+use Rattle.vm_turn.proofs.Root.{root-spends, root-stops, root-prepared}
 use Rattle.hum_sim.proofs.Lanes.{lane_stands, lane_in, others_numbers, created_once, names_distinct, sent_under_root, follows}
 use Rattle.hum_sim.proofs.Bounds.{delivers, next_within, now_within, spent_within}
 use Rattle.hum_sim.proofs.Choosing as choosing
 use Rattle.hum_sim.proofs.Dispatches as dispatches
 use Rattle.hum_sim.proofs.Dispatches.{Targets, printed_to}
-use Rattle.hum_code.proofs.PlainRows.{plain_sheet}
+use Rattle.instr_table.proofs.Plain.{plain-sheet}
 use Rattle.hum_sim.proofs.Payments.{spent_due, nothing_spent, spent_in, spends_due, stops_free, removed_spent, set_spent, begun_spent, same_spent}
 use Rattle.hum_code.proofs.Programs.{names_run}
 use Rattle.hum_sim.proofs.GoesOn.{plain, goes_on_stands}
@@ -143,7 +144,7 @@ module _ (lay : Layout) (rom_of : RomImage) (program : HoldsProgram rom_of.boot 
           configuration = commit c f.message d.1;
           stands = finish_stands lay rom_of program spent s c ok h i l at l.effects d.1
               (record { are = own.unborn; once = created_once lay rom_of program spent s c ok h i l at }) own.sent (sent_under_root lay rom_of program spent s c ok h i l at) d.4 spent_next others_spend
-              Committed sheet' s.out_of (root_spends s.sheet s.out_of h.root l.own.sponsor charge f.sponsor) events.sound events.targets;
+              Committed sheet' s.out_of (root-spends s.sheet s.out_of h.root l.own.sponsor charge f.sponsor) events.sound events.targets;
           lanes = refl;
           step = inr (record {
             entry = entry l.number Committed;
@@ -165,7 +166,7 @@ module _ (lay : Layout) (rom_of : RomImage) (program : HoldsProgram rom_of.boot 
         → RootAlone sheet out → EndsAs end ending → Leads language c f.message ending (drop c f.message)
         → ((k : ℕ) (cost : Cost) → bound language (c, f.message) k ≡ Some cost → SpentWithin (spent' l.number) cost)
         → ((kind : Quota) → spent_in kind sheet + spent_in_kind kind (spent l.number) ≡ spent_in kind s.sheet + spent_in_kind kind (spent' l.number))
-        → (HasRunOut ending → (kind : Quota) × (out ≡ Some kind))
+        → (HasRunOut ending → (kind : Quota) × (end ≡ RanOut kind) × (out ≡ Some kind))
         → Events (record (finish s i l sheet no_effects end) { out_of = out })
         → Next lay rom_of.cells spent spent' s (record (finish s i l sheet no_effects end) { out_of = out }) c
     drops spent' spends end ending sheet out alone ends leads within costs outs events = record {
@@ -193,7 +194,7 @@ module _ (lay : Layout) (rom_of : RomImage) (program : HoldsProgram rom_of.boot 
         → Next lay rom_of.cells spent spent_next s (finish s i l sheet' no_effects (Failed w)) c
     faults_next w events r =
         let d = (follows lay rom_of program spent s c ok h i l at).fails l.number s.store l (spent l.number) s.sheet w f.reached (names_distinct lay rom_of program spent s c ok h i l at) r in
-        drops spent_next others_spend (Failed w) (FailsWith d.1) sheet' s.out_of (root_spends s.sheet s.out_of h.root l.own.sponsor charge f.sponsor) d.4
+        drops spent_next others_spend (Failed w) (FailsWith d.1) sheet' s.out_of (root-spends s.sheet s.out_of h.root l.own.sponsor charge f.sponsor) d.4
         (d.0, d.2, delivers lay rom_of program spent s c ok h i l at d.0 ∙ ap (λ o. responded c f.message o) d.3) paid_within due_paid (λ e. absurd e) events
 
     -- ---- an instruction
@@ -207,7 +208,7 @@ module _ (lay : Layout) (rom_of : RomImage) (program : HoldsProgram rom_of.boot 
       paid = λ kind.
           let a = due_paid kind in
           let b = set_spent kind spent spent_next s.flight i l at others_spend (others_numbers lay rom_of program spent s c ok h i l at) (gone s.store l g) refl in
-          let e = ap (spent_in kind) (plain_sheet sheet' l.own.sponsor g.effect (plain lay rom_of program spent s c ok h i l at g r charge)) in
+          let e = ap (spent_in kind) (plain-sheet sheet' l.own.sponsor s.store g.effect (plain lay rom_of program spent s c ok h i l at g r charge)) in
           omega (arith, a, b, e);
     }
     act_next (Faults w) events r = faults_next w events r
@@ -218,7 +219,7 @@ module _ (lay : Layout) (rom_of : RomImage) (program : HoldsProgram rom_of.boot 
         ≡ record (finish s i l (stop s.sheet l.own.sponsor) no_effects (RanOut kind)) { out_of = Some kind }
     out_is kind =
         let a : same_word l.own.sponsor root ≡ true = ap (λ (w : W). same_word w root) f.sponsor ∙ word_is root in
-        let b = root_prepared s.sheet s.out_of h.root l.own.sponsor f.sponsor in
+        let b = root-prepared s.sheet s.out_of h.root l.own.sponsor f.sponsor in
         ap (λ (x : Bool). out_by x kind (run_out s i l kind)) a
         ∙ ap (λ (o : Option W). record (released o kind (finish s i l (stop s.sheet l.own.sponsor) no_effects (RanOut kind))) { out_of = Some kind }) b
 
@@ -227,10 +228,10 @@ module _ (lay : Layout) (rom_of : RomImage) (program : HoldsProgram rom_of.boot 
     charged_next None events = act_next (lane_row s.store s.sheet l).outcome events refl
     charged_next (Some kind) events =
         subst (λ (t : State). Next lay rom_of.cells spent spent s t c) (sym (out_is kind))
-        (drops spent (λ k d. refl) (RanOut kind) RunsOut (stop s.sheet l.own.sponsor) (Some kind) (root_stops s.sheet s.out_of h.root l.own.sponsor kind f.sponsor) tt refl
+        (drops spent (λ k d. refl) (RanOut kind) RunsOut (stop s.sheet l.own.sponsor) (Some kind) (root-stops s.sheet s.out_of h.root l.own.sponsor kind f.sponsor) tt refl
         (spent_within lay rom_of program spent s c ok h i l at (spent l.number) (now_within lay rom_of program spent s c ok h i l at))
         (λ k. let a = stops_free s.sheet s.out_of h.root k l.own.sponsor f.sponsor in omega (arith, a))
-        (λ e. (kind, refl))
+        (λ e. (kind, refl, refl))
         (subst Events (out_is kind) events))
 
   still : Next lay rom_of.cells spent spent s s c

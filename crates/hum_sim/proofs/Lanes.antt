@@ -33,7 +33,8 @@ use Rattle.hum_code.proofs.Programs.{messages_under_own}
 use Rattle.hum_code.specs.Program.{HoldsProgram}
 use Rattle.hum_sim.specs.Standing.{AnswersStand, ActorStands, LaneStands, StateStands}
 use Rattle.hum_sim.proofs.Lists.{every_both, each_left}
-use Rattle.hum_sim.proofs.Stores.{is_among, among_times, shown_actor}
+use Rattle.hum_sim.proofs.Stores.{shown_actor}
+use Rattle.vm_turn.proofs.Actors.{is-among, among-times}
 
 -- ---- words that are there once
 
@@ -75,11 +76,11 @@ every_among P (v ∷ ws) w e (inr a) = every_among P ws w e.1 a
 
 -- lists without a word in both
 pub both_once : (us vs : List W) → ((w : W) → times w us ≤ 1) → ((w : W) → times w vs ≤ 1) → ((w : W) → Among w us → Among w vs → ⊥) → (w : W) → times w (us ++ vs) ≤ 1
-both_once us vs f g apart w = by (is_among w us)
+both_once us vs f g apart w = by (is-among w us)
   where
     by : Among w us ⊎ (Among w us → ⊥) → times w (us ++ vs) ≤ 1
-    by (inl a) = let z = among_times w vs (apart w a) in let m = (how_often w).more us vs in let o = f w in omega (arith, z, m, o)
-    by (inr n) = let z = among_times w us n in let m = (how_often w).more us vs in let o = g w in omega (arith, z, m, o)
+    by (inl a) = let z = among-times w vs (apart w a) in let m = (how_often w).more us vs in let o = f w in omega (arith, z, m, o)
+    by (inr n) = let z = among-times w us n in let m = (how_often w).more us vs in let o = g w in omega (arith, z, m, o)
 
 -- ---- numbers
 
@@ -103,7 +104,7 @@ module _ (lay : Layout) (rom_of : RomImage) (program : HoldsProgram rom_of.boot 
   -- ---- the roll
 
   pub as_many : length s.roll ≡ length c.behaviours
-  as_many = lengths s.roll c.behaviours h.roll.actors
+  as_many = lengths s.roll c.behaviours h.behaviours.actors
     where
       lengths : (xs : List W) (ys : List (Behaviour Tests)) → Each (ActorStands lay s.store s.roll s.flight) xs ys → length xs ≡ length ys
       lengths [] [] e = refl
@@ -115,7 +116,7 @@ module _ (lay : Layout) (rom_of : RomImage) (program : HoldsProgram rom_of.boot 
   IsActor w = (code : W) × (state : W) × (mark : W) × (slot_seen s.store w ≡ Some (ActorSlot code state mark))
 
   pub roll_actors : Every IsActor s.roll
-  roll_actors = each_left (ActorStands lay s.store s.roll s.flight) IsActor (λ w b x. (x.code, x.state, x.mark, x.there)) s.roll c.behaviours h.roll.actors
+  roll_actors = each_left (ActorStands lay s.store s.roll s.flight) IsActor (λ w b x. (x.code, x.state, x.mark, x.there)) s.roll c.behaviours h.behaviours.actors
 
   pub is_actor : (w : W) → Among w s.roll → IsActor w
   is_actor w a = every_among IsActor s.roll w roll_actors a
@@ -152,7 +153,7 @@ module _ (lay : Layout) (rom_of : RomImage) (program : HoldsProgram rom_of.boot 
     not_on_roll w a b = let x = is_actor w a in let y = lane_in.unborn w b in let z = x.3 in absurd cc
 
     pub names_once : (w : W) → times w (s.roll ++ created_by l) ≤ 1
-    names_once = both_once s.roll (created_by l) h.roll.once created_once not_on_roll
+    names_once = both_once s.roll (created_by l) h.behaviours.once created_once not_on_roll
 
     pub names_distinct : Distinct (roll_with s.roll l.effects)
     names_distinct = distinct_by (s.roll ++ created_by l) names_once

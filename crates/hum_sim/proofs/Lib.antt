@@ -3,7 +3,6 @@ pub mod Pending
 pub mod Stores
 pub mod Growth
 pub mod Lanes
-pub mod Root
 pub mod Choosing
 pub mod Next
 pub mod Dispatches

@@ -7,6 +7,7 @@ use Rattle.std.proofs.Common.{inl, inr}
 use Rattle.instr_table.specs.declared.charge.Quota.{Quota}
 use Rattle.cap_words.specs.declared.word.Quad.{Quad}
 use Rattle.vm_turn.specs.declared.journal.Entry.{Entry}
+use Rattle.vm_turn.specs.declared.journal.Outcome.TheVariants.{RanOut}
 use Rattle.vm_turn.specs.State.{State}
 use Rattle.hum_meaning.specs.Value.{Parts}
 use Rattle.hum_meaning.specs.Language.{Language}
@@ -35,7 +36,7 @@ pub record Entered (lay : Layout) (spent : Spending) (s t : State) (c d : Config
   pub same : EntryAs entry delivery
   pub enters : EntersLegally (tests_language lay.units) s.lanes (spent entry.message) c delivery d
   -- an event runs out only where the root does
-  pub out : HasRunOut delivery.ending → (kind : Quota) × (t.out_of ≡ Some kind)
+  pub out : HasRunOut delivery.ending → (kind : Quota) × (entry.outcome ≡ RanOut kind) × (t.out_of ≡ Some kind)
 
 -- what the event of an added entry spent
 abbrev pub added_spent : {A : Type 0} {lay : Layout} {spent : Spending} {s t : State} {c d : Configuration Tests} → Quota → A ⊎ Entered lay spent s t c d → ℕ

@@ -10,6 +10,7 @@ use Rattle.vm_turn.specs.declared.journal.Entry as machine
 use Rattle.vm_turn.specs.declared.journal.Turn.TheVariants.{Rest}
 use Rattle.vm_turn.specs.State.{State}
 use Rattle.vm_turn.specs.Turn.{turn}
+use Rattle.vm_turn.specs.Changes.{place}
 use Rattle.vm_turn.specs.Run.{run}
 use Rattle.vm_turn.specs.Sound.{Sound}
 use Rattle.vm_turn.proofs.RunsSound.{run-sound}
@@ -244,28 +245,28 @@ module _ (file : List Stmt) (image : RomImage) (layout : Layout) (holds : HoldsF
       r : Others o.earlier o.before
       r = others o.earlier o.before o.running
 
-      l : Of o.earlier o.before r.next o.is_short.lane
-      l = lane_of o.earlier o.before r.next r.contiguous o.is_short.place o.is_short.lane o.is_short.there
+      l : Of o.earlier o.before r.next o.is_short.event.lane
+      l = lane_of o.earlier o.before r.next r.contiguous (place o.is_short.event) o.is_short.event.lane o.is_short.event.there
 
-      alone : (run image grant 1 o.earlier).flight ≡ o.is_short.lane ∷ []
-      alone = alone_in (run image grant 1 o.earlier).flight o.is_short.place o.is_short.lane (let q = o.before.stands.stands.flight.room in let n = lanes_stay file image layout grant 1 holds o.earlier in omega (arith, q, n)) o.is_short.there
+      alone : (run image grant 1 o.earlier).flight ≡ o.is_short.event.lane ∷ []
+      alone = alone_in (run image grant 1 o.earlier).flight (place o.is_short.event) o.is_short.event.lane (let q = o.before.stands.stands.flight.room in let n = lanes_stay file image layout grant 1 holds o.earlier in omega (arith, q, n)) o.is_short.event.there
 
       by : (r : Others o.earlier o.before) (js : List Entry) (cs : List Cost) → Delivers humus r.next o.before.configuration js cs d → comes.costs ≡ r.before ++ cs → ⊥
-      by r [] [] x e = none_pending o.before.configuration o.is_short.lane.number l.message (ap (λ (z : Configuration (Named written)). z.pending) x ∙ comes.rests) l.found
+      by r [] [] x e = none_pending o.before.configuration o.is_short.event.lane.number l.message (ap (λ (z : Configuration (Named written)). z.pending) x ∙ comes.rests) l.found
       by r [] (y ∷ cs) x e = absurd x
       by r (j ∷ js) [] x e = absurd x
       by r (j ∷ js) (y ∷ cs) x e =
-          let own = lane_of o.earlier o.before r.next r.contiguous o.is_short.place o.is_short.lane o.is_short.there in
+          let own = lane_of o.earlier o.before r.next r.contiguous (place o.is_short.event) o.is_short.event.lane o.is_short.event.there in
           let m = x.3.message in
-          let number : o.is_short.lane.number ≡ j.message = own.number ∙ sym x.0 in
-          let found : message_of o.is_short.lane.number o.before.configuration.pending ≡ Some m = ap (λ (n : ℕ). message_of n o.before.configuration.pending) number ∙ x.3.pending in
+          let number : o.is_short.event.lane.number ≡ j.message = own.number ∙ sym x.0 in
+          let found : message_of o.is_short.event.lane.number o.before.configuration.pending ≡ Some m = ap (λ (n : ℕ). message_of n o.before.configuration.pending) number ∙ x.3.pending in
           let messages : MessagesOf o.before.configuration (run image grant 1 o.earlier).flight (m ∷ []) = subst (λ (ls : List Lane). MessagesOf o.before.configuration ls (m ∷ [])) (sym alone) (found, tt) in
           let fit = comes.fits kind in
           let a = sum_both kind r.before (y ∷ []) in
           let b = sum_both kind r.before (y ∷ cs) in
           let c = sum_both kind (y ∷ []) cs in
           let g : sum (map (allowed kind) comes.costs) ≡ sum (map (allowed kind) (r.before ++ y ∷ cs)) = ap (λ (zs : List Cost). sum (map (allowed kind) zs)) e in
-          all_paid file image layout grant (spent_in_run image grant 1 o.earlier) (run image grant 1 o.earlier) (run-sound image grant 1 o.earlier) o.before kind r.before (m ∷ []) (y ∷ []) r.bounds messages (x.4, tt)
+          all_paid file image layout grant (spent_in_run image grant 1 o.earlier) (run image grant 1 o.earlier) (run-sound image grant 1 o.earlier) o.before kind o.pick r.before (m ∷ []) (y ∷ []) r.bounds messages (x.4, tt)
           (omega (arith, fit, a, b, c, g)) o.is_short
 
   never_out : (picks : List ℕ) → (run image grant 1 picks).out_of ≡ None

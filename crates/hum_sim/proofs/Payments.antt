@@ -13,8 +13,8 @@ use Rattle.instr_table.specs.Reach.{Every}
 use Rattle.vm_turn.specs.State.{root}
 use Rattle.vm_turn.proofs.Sums.{sum-removed, sum-set}
 use Rattle.cap_words.specs.Words.{W}
-use Rattle.hum_sim.specs.Standing.{RootAlone}
-use Rattle.hum_sim.proofs.Root.{spent_account, stopped_account}
+use Rattle.vm_turn.specs.Alone.{RootAlone}
+use Rattle.vm_turn.proofs.Root.{spent-account, stopped-account}
 
 pub spent_due : (kind : Quota) (n : Spent) (c : Charge) → spent_in_kind kind (spent_more n c) ≡ spent_in_kind kind n + due_in_kind kind c
 spent_due Memory n c = omega arith
@@ -45,12 +45,12 @@ module _ (sheet : List Account) (out : Option Quota) (r : RootAlone sheet out) (
   pub spends_due : (c : Charge) → spent_in kind (spend sheet who c) ≡ spent_in kind sheet + due_in_kind kind c
   spends_due c =
       ap (λ (w : W). spent_in kind (spend sheet w c)) is
-      ∙ (ap (λ (a : Account). (amount kind a).spent) (spent_account sheet out r c) ∙ paid_of kind c (account sheet root))
+      ∙ (ap (λ (a : Account). (amount kind a).spent) (spent-account sheet out r c) ∙ paid_of kind c (account sheet root))
 
   pub stops_free : spent_in kind (stop sheet who) ≡ spent_in kind sheet
   stops_free =
       ap (λ (w : W). spent_in kind (stop sheet w)) is
-      ∙ (ap (λ (a : Account). (amount kind a).spent) (stopped_account sheet out r) ∙ stopped_of kind (account sheet root))
+      ∙ (ap (λ (a : Account). (amount kind a).spent) (stopped-account sheet out r) ∙ stopped_of kind (account sheet root))
 
 -- ---- events in flight
 

@@ -25,13 +25,14 @@ use Rattle.hum_meaning.specs.Named.{Named, written}
 use Rattle.hum_meaning.specs.Written.{humus}
 use Rattle.hum_meaning.specs.After as meaning
 use Rattle.hum_meaning.specs.After.{Enters, Follows}
+use Rattle.hum_meaning.proofs.CodedNames.{named_coded, fails_by_code}
 use Rattle.hum_core.specs.Alike.{Each}
 use Rattle.hum_core.specs.Openings.{opening}
 use Rattle.hum_core.specs.Programs.{FileAs}
 use Rattle.hum_core.proofs.Programs.{program_means, programs_mean}
 use Rattle.hum_code.specs.Layout.{Layout}
 use Rattle.hum_sim.specs.Program.{HoldsFile}
-use Rattle.hum_sim.specs.Journal.{EntryAs, HasRunOut, AreDecided}
+use Rattle.hum_sim.specs.Journal.{EntryAs, HasRunOut, AreDecided, HasCode, HaveCodes}
 use Rattle.hum_sim.specs.Legal.{IsItsTurn, IsLegal}
 use Rattle.hum_sim.specs.Within.{IsWithin, AreWithin}
 use Rattle.vm_turn.specs.Sound.{Sound}
@@ -165,7 +166,7 @@ module _ (file : List Stmt) (image : RomImage) (layout : Layout) (grant : Amount
             stands = n.stands.keeps.stands;
             decided = λ o.
                 every-append (λ (y : meaning.Entry). HasRunOut y.ending → ⊥) f.journal (a.delivery ∷ []) (f.decided (ran_before s pick s.out_of refl o))
-                ((λ y. let z = a.out y in none-some z.0 (sym o ∙ z.1)), tt);
+                ((λ y. let z = a.out y in none-some z.0 (sym o ∙ z.2)), tt);
             within =
                 within_then humus s.lanes (spent' a.delivery.message) a.delivery spent' refl (meaning.opening file) f.configuration n.stands.configuration f.journal f.follows x
                 (within_same humus spent spent' (meaning.opening file) f.journal f.configuration f.follows stay f.within);
@@ -233,10 +234,21 @@ module _ (file : List Stmt) (image : RomImage) (layout : Layout) (grant : Amount
   pub lanes_stay : HoldsFile file image layout → (picks : List ℕ) → (run image grant lanes picks).lanes ≡ lanes
   lanes_stay holds picks = (ran holds picks).lanes_are
 
+-- failures have the codes 1 to 8
+have_codes : (c : Configuration (Named written)) (es : List meaning.Entry) (d : Configuration (Named written)) → Follows humus c es d → HaveCodes es
+have_codes c [] d f = tt
+have_codes c (e ∷ es) d f = (by e.ending f.1.leads, have_codes f.0 es d f.2)
+  where
+    by : (ending : meaning.Ending) → meaning.Leads humus c f.1.message ending f.0 → HasCode ending
+    by meaning.Commits x = tt
+    by (meaning.FailsWith code) x = (fails_by_code humus (named_coded written)).deliveries c f.0 f.1.message x.0 code x.1 x.2
+    by meaning.RunsOut x = tt
+
 -- what follows of the order
 pub what_follows : (file : List Stmt) (image : RomImage) (layout : Layout) (spent : Spending) (s : State) (f : FollowsItsJournal file image layout spent s) → WhatFollows file image layout spent s f
 what_follows file image layout spent s f = record {
   output = f.stands.stands.output ∙ sym ((program_means file).seen f.configuration f.stands.of_program f.stands.alike).output;
+  codes = have_codes (meaning.opening file) f.journal f.configuration f.follows;
   in_order = in_order humus s.lanes (meaning.opening file) f.journal f.configuration f.follows f.legal (omega arith, tt);
   numbered = λ one. counted humus s.lanes one 0 (meaning.opening file) f.journal f.configuration f.follows f.legal (refl, refl);
 }

@@ -17,6 +17,7 @@ use Rattle.vm_turn.specs.declared.journal.Turn.TheVariants.{Rest}
 use Rattle.vm_turn.specs.State.{State, root}
 use Rattle.vm_turn.specs.Boot.{booted}
 use Rattle.vm_turn.specs.Turn.{unless_spent, turn}
+use Rattle.vm_turn.specs.Changes.{place}
 use Rattle.vm_turn.specs.Run.{after, run}
 use Rattle.vm_turn.specs.Sound.{Sound}
 use Rattle.vm_turn.proofs.RunsSound.{run-sound}
@@ -34,13 +35,13 @@ use Rattle.hum_core.specs.TestLists.{tests_language}
 use Rattle.hum_core.proofs.Programs.{program_means}
 use Rattle.hum_code.specs.Layout.{Layout}
 use Rattle.hum_sim.specs.Program.{HoldsFile}
-use Rattle.hum_sim.specs.Standing.{RootAlone}
+use Rattle.vm_turn.specs.Alone.{RootAlone}
 use Rattle.hum_sim.specs.Within.{allowed, MessagesOf, AreWithin, FinishedBounds, NoChoiceFits}
-use Rattle.hum_sim.specs.Runs.{FollowsItsJournal, IsShort, RanOutBecause, BoundsFit, BoundsAlwaysFit, RunStands, RunsFollowTheirJournals}
-use Rattle.hum_sim.proofs.Root.{root_account}
+use Rattle.hum_sim.specs.Runs.{FollowsItsJournal, RootIsShort, RanOutBecause, BoundsFit, BoundsAlwaysFit, RunStands, RunsFollowTheirJournals}
+use Rattle.vm_turn.proofs.Root.{root-account}
 use Rattle.hum_sim.proofs.Lanes.{lane_stands}
 use Rattle.hum_sim.proofs.Causes.{rest_means, rest_comes, sum_first, within_kind, none_fit}
-use Rattle.hum_sim.proofs.Outs.{OutNow, turn_out}
+use Rattle.hum_sim.proofs.Outs.{OutNow, out_now}
 use Rattle.hum_sim.proofs.Files.{none_fits_back}
 use Rattle.hum_sim.proofs.Runs.{follows_journal, lanes_stay, what_follows}
 
@@ -66,7 +67,7 @@ sum_both kind (x ∷ xs) ys = let a = sum_first kind x (xs ++ ys) in let b = sum
 -- what the root spent and holds was granted
 root_kept : (sheet : List Account) (out : Option Quota) (r : RootAlone sheet out) (kind : Quota) → (amount kind (account sheet root)).spent + (amount kind (account sheet root)).held ≡ total kind sheet
 root_kept sheet out r kind =
-    let a = root_account sheet out r in
+    let a = root-account sheet out r in
     let s = ap (λ (x : Account). (amount kind x).spent) a in
     let h = ap (λ (x : Account). (amount kind x).held) a in
     let t : total kind sheet ≡ total kind (r.account ∷ []) = ap (total kind) r.only in
@@ -105,27 +106,27 @@ out_at s (p ∷ picks) kind running out = by (turn s p).0.out_of refl (λ e. out
 -- ---- of a state that follows its journal
 
 module _ (file : List Stmt) (image : RomImage) (layout : Layout) (grant : Amounts) (spent : Spending) (s : State) (sound : Sound grant s) (f : FollowsItsJournal file image layout spent s) where
-  -- where an instruction can't be paid, no choice fits
-  pub none_fits : (kind : Quota) → IsShort kind s → NoChoiceFits humus f.configuration spent s kind
-  none_fits kind x =
+  -- where the root is short, no choice fits
+  pub none_fits : (kind : Quota) (pick : ℕ) → RootIsShort kind s pick → NoChoiceFits humus f.configuration spent s kind
+  none_fits kind pick x =
       let h = f.stands in
-      let sponsor = (lane_stands layout image h.holds.holds_program spent s h.of_program sound h.stands x.place x.lane x.there).sponsor in
-      let due = subst (λ (w : W). short (account s.sheet w) (lane_row s.store s.sheet x.lane).charge ≡ Some kind) (sym sponsor) x.due in
+      let sponsor = (lane_stands layout image h.holds.holds_program spent s h.of_program sound h.stands (place x.event) x.event.lane x.event.there).sponsor in
+      let due = subst (λ (w : W). short (account s.sheet w) (lane_row s.store s.sheet x.event.lane).charge ≡ Some kind) (sym sponsor) x.due in
       none_fits_back file (program_means file) f.configuration h.of_program h.alike spent s kind
       (subst (λ (us : List TestUnit). NoChoiceFits (tests_language us) h.of_program spent s kind) h.holds.units
-      (none_fit layout image h.holds.holds_program spent s h.of_program sound h.stands kind x.place x.lane x.there due))
+      (none_fit layout image h.holds.holds_program spent s h.of_program sound h.stands kind (place x.event) x.event.lane x.event.there due))
 
   -- where all bounds fit the grant, each instruction can be paid
-  pub all_paid : (kind : Quota) (finished : List Cost) (messages : List (Message (Named written))) (costs : List Cost)
+  pub all_paid : (kind : Quota) (pick : ℕ) (finished : List Cost) (messages : List (Message (Named written))) (costs : List Cost)
       → FinishedBounds humus (meaning.opening file) f.journal f.configuration f.follows finished → MessagesOf f.configuration s.flight messages
-      → HaveBounds humus (map (λ m. (f.configuration, m)) messages) costs → Fit (allowed kind) (finished ++ costs) (of_kind kind grant) → IsShort kind s → ⊥
-  all_paid kind finished messages costs b m g fit x =
+      → HaveBounds humus (map (λ m. (f.configuration, m)) messages) costs → Fit (allowed kind) (finished ++ costs) (of_kind kind grant) → RootIsShort kind s pick → ⊥
+  all_paid kind pick finished messages costs b m g fit x =
       let a = finished_within humus kind spent (meaning.opening file) f.journal f.configuration f.follows f.within finished b in
       let t = sum_both kind finished costs in
       let k = root_kept s.sheet s.out_of f.stands.stands.root kind in
       let c = sound.conserved kind in
       let p = f.paid kind in
-      none_fits kind x messages costs m g (omega (arith, a, t, k, c, p, fit))
+      none_fits kind pick x messages costs m g (omega (arith, a, t, k, c, p, fit))
 
 -- ---- of runs
 
@@ -134,18 +135,8 @@ module _ (file : List Stmt) (image : RomImage) (layout : Layout) (holds : HoldsF
   why_out picks kind out =
       let x = out_at (booted image grant lanes) picks kind refl out in
       let s = run image grant lanes x.earlier in
-      let spent = spent_in_run image grant lanes x.earlier in
       let f = follows_journal file image layout grant lanes holds x.earlier in
-      let sound = run-sound image grant lanes x.earlier in
-      let h = f.stands in
-      let now : OutNow s (turn s x.pick).0 kind = turn_out layout image h.holds.holds_program spent s h.of_program sound h.stands x.running x.pick kind x.out in
-      let sponsor = (lane_stands layout image h.holds.holds_program spent s h.of_program sound h.stands now.place now.lane now.there).sponsor in
-      let is : IsShort kind s = record {
-        place = now.place;
-        lane = now.lane;
-        there = now.there;
-        due = subst (λ (w : W). short (account s.sheet w) (lane_row s.store s.sheet now.lane).charge ≡ Some kind) sponsor now.short_of;
-      } in
+      let now : OutNow kind s x.pick = out_now s x.pick x.running kind x.out in
       record {
         earlier = x.earlier;
         pick = x.pick;
@@ -153,9 +144,9 @@ module _ (file : List Stmt) (image : RomImage) (layout : Layout) (holds : HoldsF
         picks_are = x.picks_are;
         running = x.running;
         before = f;
-        is_short = is;
+        is_short = now.is_short;
         last = ap (λ (t : State). t.journal) x.stays ∙ now.last;
-        none_fits = none_fits file image layout grant spent s sound f kind is;
+        none_fits = none_fits file image layout grant (spent_in_run image grant lanes x.earlier) s (run-sound image grant lanes x.earlier) f kind x.pick now.is_short;
       }
 
   pub holds_out : (picks : List ℕ) → BoundsAlwaysFit file image layout grant lanes picks → (run image grant lanes picks).out_of ≡ None
@@ -166,7 +157,7 @@ module _ (file : List Stmt) (image : RomImage) (layout : Layout) (holds : HoldsF
       by (Some kind) e =
           let c = why_out picks kind e in
           let b = fits c.earlier (c.pick ∷ c.later) c.picks_are in
-          absurd (all_paid file image layout grant (spent_in_run image grant lanes c.earlier) (run image grant lanes c.earlier) (run-sound image grant lanes c.earlier) b.at kind
+          absurd (all_paid file image layout grant (spent_in_run image grant lanes c.earlier) (run image grant lanes c.earlier) (run-sound image grant lanes c.earlier) b.at kind c.pick
           b.finished b.messages b.in_flight b.bound_finished b.are_in_flight b.bound_in_flight (b.fit kind) c.is_short)
 
   pub nothing_left : (picks : List ℕ) (pick : ℕ) → 1 ≤ lanes → (turn (run image grant lanes picks) pick).1 ≡ Rest → (follows_journal file image layout grant lanes holds picks).configuration.pending ≡ []
@@ -186,8 +177,9 @@ module _ (file : List Stmt) (image : RomImage) (layout : Layout) (holds : HoldsF
       let h = f.stands in
       let at_rest = ((program_means file).seen f.configuration h.of_program h.alike).at_rest in
       record {
+        lanes_are = lanes_stay file image layout grant lanes holds picks;
         follows = f;
-        order = what_follows file image layout spent s f;
+        what_follows = what_follows file image layout spent s f;
         comes_to_rest = λ pick running none. rest_comes layout image h.holds.holds_program spent s h.of_program (run-sound image grant lanes picks) h.stands running (at_rest.0 none) pick;
         nothing_pending = nothing_left picks;
         why_out = why_out picks;

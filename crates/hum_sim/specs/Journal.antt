@@ -5,6 +5,7 @@ use Rattle.instr_table.specs.Reach.{Every}
 use Rattle.vm_turn.specs.declared.journal.Entry.{Entry}
 use Rattle.vm_turn.specs.declared.journal.Outcome.{Outcome as End}
 use Rattle.vm_turn.specs.declared.journal.Outcome.TheVariants.{Committed, Failed, RanOut}
+use Rattle.hum_meaning.specs.Codes.{IsCode}
 use Rattle.hum_meaning.specs.After as after
 use Rattle.hum_meaning.specs.After.{Ending, Commits, FailsWith, RunsOut}
 
@@ -29,3 +30,13 @@ HasRunOut RunsOut = Unit {0}
 -- each of these events committed, or failed with a code
 abbrev pub AreDecided : List after.Entry → Type 0
 AreDecided journal = Every (λ (e : after.Entry). HasRunOut e.ending → ⊥) journal
+
+-- the code of a failure is one of 1 to 8
+abbrev pub HasCode : Ending → Type 0
+HasCode Commits = Unit {0}
+HasCode (FailsWith code) = IsCode code
+HasCode RunsOut = Unit {0}
+
+-- so it is of each of these events
+abbrev pub HaveCodes : List after.Entry → Type 0
+HaveCodes journal = Every (λ (e : after.Entry). HasCode e.ending) journal

@@ -1,16 +1,16 @@
 -- When a state of the machine stands for a configuration of a program.
-use Rattle.std.specs.Prelude.{◌≡◌, ◌⊎◌, ℕ, ◌≤◌, nat_eq, if◌then◌else◌, pos, true, List, [], ◌∷◌, length, Option, Some, None, slice_get}
+use Rattle.std.specs.Prelude.{◌≡◌, ◌⊎◌, ℕ, ◌≤◌, nat_eq, if◌then◌else◌, pos, List, [], ◌∷◌, length, Option, Some, None, slice_get}
 use Rattle.cap_words.specs.declared.word.Quad.{Quad}
 use Rattle.cap_words.specs.Words.{W, Fix, undef}
 use Rattle.cap_words.specs.Seen.{Seen, ActorSlot, EventSlot, slot_seen}
-use Rattle.instr_table.specs.declared.charge.Quota.{Quota}
 use Rattle.instr_table.specs.Types.{AnActor, look_up}
 use Rattle.instr_table.specs.Making.{NoCodeInRam}
-use Rattle.instr_table.specs.Sheet.{Account, runs_in, signal_in}
 use Rattle.instr_table.specs.Lane.{Lane, begun}
 use Rattle.instr_table.specs.Reach.{Every}
 use Rattle.vm_turn.specs.State.{Message, State, root, println_device, say_device}
+use Rattle.vm_turn.specs.Alone.{RootAlone}
 use Rattle.vm_turn.specs.Boot.{first_actor}
+use Rattle.vm_turn.specs.Roll.{NoEventOf}
 use Rattle.vm_turn.specs.Turn.{device_of}
 use Rattle.vm_turn.specs.Sound.{times, FlightSound}
 use Rattle.hum_meaning.specs.Value.{Value, Function, Behaviour, Device, Answers}
@@ -31,18 +31,6 @@ use Rattle.vm_turn.specs.Spending.{Spending}
 abbrev pub first_to : ℕ → List (meaning.Message Tests) → Option (meaning.Message Tests)
 first_to t [] = None
 first_to t (m ∷ ms) = if nat_eq m.target t then Some m else first_to t ms
-
--- none of these events is of that actor
-abbrev pub NoEventOf : W → List Lane → Type 0
-NoEventOf w flight = Every (λ (l : Lane). l.own.actor ≡ w → ⊥) flight
-
--- The root is the only sponsor. It has prepared no signal, and runs unless it ran out.
-pub record RootAlone (sheet : List Account) (out_of : Option Quota) : Type 0 where
-  pub account : Account
-  pub only : sheet ≡ account ∷ []
-  pub is_root : account.sponsor ≡ root
-  pub no_signal : signal_in account.standing ≡ None
-  pub runs : out_of ≡ None → runs_in account.standing ≡ true
 
 module _ (layout : Layout) where
   -- ---- actors
@@ -70,7 +58,7 @@ module _ (layout : Layout) where
 
   -- The roll is as long as the list of behaviours and names no actor twice; its actors have these behaviours. It begins with the first actor
   -- and the two devices.
-  pub record RollStands (s : State) (c : Configuration Tests) : Type 0 where
+  pub record BehavioursStand (s : State) (c : Configuration Tests) : Type 0 where
     pub actors : Each (ActorStands s.store s.roll s.flight) s.roll c.behaviours
     pub once : (w : W) → times w s.roll ≤ 1
     pub front : (more : List W) × (s.roll ≡ first_actor ∷ println_device ∷ say_device ∷ more)
@@ -98,7 +86,8 @@ module _ (layout : Layout) where
     pub message : Stands layout base roll l.own.message value
 
   -- An event in flight is of the first message to its actor that is pending, and its actor is no device. The machine's rows reach the event
-  -- from its dispatch, at what it has spent, whatever others did between. It is under the root, and so are the messages that it sends.
+  -- from its dispatch, at what it has spent, whatever others did between. It is under the root; and so is each message that it has
+  -- sent, since its rows send under its own sponsor.
   pub record LaneStands (s : Seen) (roll : List W) (c : Configuration Tests) (spent : Spending) (l : Lane) : Type 0 where
     pub message : meaning.Message Tests
     pub pending : message_of l.number c.pending ≡ Some message
@@ -133,7 +122,7 @@ module _ (layout : Layout) where
   pub record StateStands (rom : List Quad) (spent : Spending) (s : State) (c : Configuration Tests) : Type 0 where
     pub rom_is : s.store.rom ≡ rom
     pub code_out : NoCodeInRam s.store
-    pub roll : RollStands s c
+    pub behaviours : BehavioursStand s c
     pub messages : Each (MessageStands s.store s.roll) s.messages c.pending
     pub next_number : s.next_number ≡ c.next_number
     pub output : s.output ≡ c.output

@@ -4,6 +4,7 @@ use Rattle.instr_table.specs.declared.charge.Quota.{Quota}
 use Rattle.quad_memory.specs.Image.{RomImage}
 use Rattle.vm_sponsor.specs.declared.amounts.Amounts.{Amounts}
 use Rattle.vm_turn.specs.declared.journal.Entry.{Entry}
+use Rattle.vm_turn.specs.declared.journal.Outcome.TheVariants.{RanOut}
 use Rattle.vm_turn.specs.State.{State}
 use Rattle.vm_turn.specs.Turn.{turn}
 use Rattle.vm_turn.specs.Sound.{Sound}
@@ -21,7 +22,7 @@ use Rattle.hum_sim.specs.Within.{IsWithin}
 use Rattle.hum_sim.specs.File.{StandsForFile}
 
 -- The turn adds an entry, and the second configuration is the one that the entry's delivery makes of the first. It was the message's turn, the
--- event spent no more than the delivery's bound, and it ran out only where the root does.
+-- event spent no more than the delivery's bound, and it ran out of a kind only where the root does.
 pub record AddsAnEntry (spent : Spending) (s t : State) (c d : Configuration (Named written)) : Type 0 where
   pub entry : Entry
   pub delivery : after.Entry
@@ -30,7 +31,7 @@ pub record AddsAnEntry (spent : Spending) (s t : State) (c d : Configuration (Na
   pub enters : Enters humus c delivery d
   pub in_turn : IsItsTurn s.lanes c enters.message
   pub within : IsWithin humus (c, enters.message) (spent delivery.message)
-  pub out : HasRunOut delivery.ending → (kind : Quota) × (t.out_of ≡ Some kind)
+  pub out : HasRunOut delivery.ending → (kind : Quota) × (entry.outcome ≡ RanOut kind) × (t.out_of ≡ Some kind)
 
 -- what turns keep: what every machine keeps under its grant, and what the state stands for
 pub record Keeps (file : List Stmt) (image : RomImage) (layout : Layout) (grant : Amounts) (spent : Spending) (s : State) (c : Configuration (Named written)) : Type 0 where
