@@ -9,7 +9,7 @@ use Rattle.quad_memory.specs.Image.{RomImage}
 use Rattle.instr_table.specs.Types.{look_up}
 use Rattle.instr_table.specs.Making.{NoCodeInRam}
 use Rattle.vm_sponsor.specs.declared.amounts.Amounts.{Amounts}
-use Rattle.vm_sponsor.specs.Sheets.{root-account}
+use Rattle.vm_sponsor.specs.Sheets.{root_account}
 use Rattle.vm_turn.specs.State.{State, root, println_device, say_device}
 use Rattle.vm_turn.specs.Boot.{first_actor, booted}
 use Rattle.vm_turn.specs.Sound.{times}
@@ -96,5 +96,5 @@ module _ (lay : Layout) (image : RomImage) (program : HoldsProgram image.boot im
       room = omega arith;
       in_turn = λ one. tt;
     };
-    root = record { account = root-account root grant; only = refl; is_root = refl; no_signal = refl; runs = λ e. refl };
+    root = record { account = root_account root grant; only = refl; is_root = refl; no_signal = refl; runs = λ e. refl };
   }

@@ -1,5 +1,5 @@
 -- Why a run stops.
-use Rattle.instr_table.specs.Spent.{Spent, due_in_kind, spent_in_kind, spent_more}
+use Rattle.instr_table.specs.Spent.{Spent, spent_in_kind, spent_more}
 use Rattle.vm_turn.specs.Spending.{Spending, spent_in_flight}
 use Rattle.std.proofs.Common.{◌≡◌, refl, ap, sym, subst, ◌∙◌, ℕ, zero, suc, ◌+◌, ◌≤◌, ◌<◌, Bool, true, false, List, [], ◌∷◌, length, map, Option, Some, None, slice_get, arith, if◌then◌else◌, nat_lt, sum}
 use Rattle.std.specs.Prelude.{◌%◌}
@@ -33,7 +33,7 @@ use Rattle.hum_sim.specs.Within.{allowed, MessagesOf, NoChoiceFits}
 use Rattle.hum_sim.proofs.Pending.{Pending}
 use Rattle.hum_sim.proofs.Lanes.{lane_stands}
 use Rattle.hum_sim.proofs.Bounds.{next_within, now_within, spent_within}
-use Rattle.hum_sim.proofs.Payments.{spent_due}
+use Rattle.hum_sim.proofs.Payments.{due_in_kind, spent_due}
 use Rattle.hum_sim.proofs.Choosing.{all_go}
 
 pub sum_first : (kind : Quota) (x : Cost) (xs : List Cost) → sum (map (allowed kind) (x ∷ xs)) ≡ allowed kind x + sum (map (allowed kind) xs)

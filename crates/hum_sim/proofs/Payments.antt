@@ -1,5 +1,5 @@
 -- What the root has spent is what events have.
-use Rattle.instr_table.specs.Spent.{Spent, due_in_kind, spent_in_kind, spent_more, unspent}
+use Rattle.instr_table.specs.Spent.{Spent, spent_in_kind, spent_more, unspent}
 use Rattle.vm_turn.specs.Spending.{Spending, spent_in_flight, with_spent}
 use Rattle.std.proofs.Common.{◌≡◌, refl, ap, ◌∙◌, ℕ, ◌+◌, List, [], ◌∷◌, ◌++◌, Option, Some, slice_get, slice_set, eq-eqb, ne_eqb, arith}
 use Rattle.std.specs.Prelude.{remove}
@@ -15,6 +15,12 @@ use Rattle.vm_turn.proofs.Sums.{sum-removed, sum-set}
 use Rattle.cap_words.specs.Words.{W}
 use Rattle.vm_turn.specs.Alone.{RootAlone}
 use Rattle.vm_turn.proofs.Root.{spent-account, stopped-account}
+
+-- what is due of a kind
+abbrev pub due_in_kind : Quota → Charge → ℕ
+due_in_kind Memory c = c.quads
+due_in_kind Events c = c.events
+due_in_kind Cycles c = 1
 
 pub spent_due : (kind : Quota) (n : Spent) (c : Charge) → spent_in_kind kind (spent_more n c) ≡ spent_in_kind kind n + due_in_kind kind c
 spent_due Memory n c = omega arith

@@ -8,7 +8,7 @@ use Rattle.cap_words.specs.declared.word.Quad.{Quad}
 use Rattle.instr_table.specs.Code.{fetched_in}
 use Rattle.instr_table.specs.Making.{NoCodeInRam}
 use Rattle.vm_turn.proofs.Slots.{Alike}
-use Rattle.vm_turn.proofs.Actors.{actor-other}
+use Rattle.vm_turn.proofs.Actors.{actor-other, same-grows}
 use Rattle.cap_words.specs.Seen.{Seen, open_in, Slot, OpenSlot, ActorSlot, UnbornSlot, EventSlot, SponsorSlot, SpentSlot, slot_seen, altered, grown}
 use Rattle.cap_words.specs.Frame.{Among}
 use Rattle.cap_words.proofs.Places.{get-left, get-set_same, get-set_other}
@@ -130,7 +130,7 @@ idle_other s (m ∷ ms) w u f =
     ∙ altered_other s m.actor w UnbornSlot (ActorSlot m.code m.state undef) (u.are m.actor (inl refl)) (λ e. f (inl e))
 
 pub idle_grows : (s : Seen) (ms : List Made) → Unborn s ms → Grows s (all_idle s ms)
-idle_grows s [] u = same_grows s
+idle_grows s [] u = same-grows s
 idle_grows s (m ∷ ms) u =
     grows-then s (idled s m ms u) (all_idle (idled s m ms u) ms)
     (altered_grows s m.actor UnbornSlot m.code m.state undef (u.are m.actor (inl refl)) refl)
