@@ -81,7 +81,7 @@ fn operand<'a>(
     scope: &Scope<'_, 'a>,
     e: &'a TestExpr,
     k: u32,
-) -> Result<u32, AllocError>
+) -> Result<u32, NoMemory>
     ensures { IfOk result (λ at. (emitted out.new, at) ≡ spec.expr_code e.now (shape_in scope.now) k (emitted out.old)) }
 {
     match e {

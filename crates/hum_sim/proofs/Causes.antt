@@ -33,7 +33,6 @@ use Rattle.hum_sim.specs.Within.{allowed, MessagesOf, NoChoiceFits}
 use Rattle.hum_sim.proofs.Pending.{Pending}
 use Rattle.hum_sim.proofs.Lanes.{lane_stands}
 use Rattle.hum_sim.proofs.Bounds.{next_within, now_within, spent_within}
-use Rattle.hum_sim.proofs.Payments.{due_in_kind, spent_due}
 use Rattle.hum_sim.proofs.Choosing.{all_go}
 
 pub sum_first : (kind : Quota) (x : Cost) (xs : List Cost) → sum (map (allowed kind) (x ∷ xs)) ≡ allowed kind x + sum (map (allowed kind) xs)
@@ -111,6 +110,17 @@ module _ (lay : Layout) (rom_of : RomImage) (program : HoldsProgram rom_of.boot 
       by (l ∷ ls) e i = cc
 
 -- ---- the root ran out
+
+-- what is due of a kind
+abbrev pub due_in_kind : Quota → Charge → ℕ
+due_in_kind Memory c = c.quads
+due_in_kind Events c = c.events
+due_in_kind Cycles c = 1
+
+spent_due : (kind : Quota) (n : Spent) (c : Charge) → spent_in_kind kind (spent_more n c) ≡ spent_in_kind kind n + due_in_kind kind c
+spent_due Memory n c = omega arith
+spent_due Events n c = omega arith
+spent_due Cycles n c = omega arith
 
 short_is : (a : Account) (c : Charge) (kind : Quota) → short a c ≡ Some kind → (amount kind a).held < due_in_kind kind c
 short_is a c kind h = by (nat_lt a.cycles.held 1) (nat_lt a.memory.held c.quads) (nat_lt a.events.held c.events) refl refl refl h

@@ -1,8 +1,7 @@
 -- What is so of deliveries of a file's program is so of those of the file.
 use Rattle.instr_table.specs.Spent.{Spent}
 use Rattle.vm_turn.specs.Spending.{Spending}
-use Rattle.std.proofs.Common.{◌≡◌, ◌⊎◌, inl, inr, refl, sym, subst, ◌∙◌, ℕ, ◌≤◌, sum, List, [], ◌∷◌, map, Option, Some, None, arith}
-use Rattle.std.proofs.lemmas.Option.{same_Some}
+use Rattle.std.proofs.Common.{◌≡◌, refl, sym, subst, ℕ, ◌≤◌, sum, List, [], ◌∷◌, map, Option, Some, None, arith}
 use Rattle.instr_table.specs.declared.charge.Quota.{Quota}
 use Rattle.instr_table.specs.declared.charge.Quota.TheVariants.{Memory, Events, Cycles}
 use Rattle.instr_table.specs.Lane.{Lane}
@@ -13,7 +12,7 @@ use Rattle.hum_meaning.specs.Named.{Named, written}
 use Rattle.hum_meaning.specs.Written.{humus}
 use Rattle.hum_meaning.specs.After.{Entry, message_of, Enters}
 use Rattle.hum_core.specs.Alike.{Both, Each}
-use Rattle.hum_core.specs.Bound.{Cost, HaveBounds, Fit}
+use Rattle.hum_core.specs.Bound.{Cost, Fit}
 use Rattle.hum_core.specs.Likeness.{IsPending, IsAtMost, EventsAs, MeansTheSame}
 use Rattle.hum_core.specs.Programs.{FileAs, program_language}
 use Rattle.hum_core.specs.TestLists.{Tests}

@@ -1,29 +1,24 @@
 -- An instruction that goes on keeps what stands.
 use Rattle.instr_table.specs.Spent.{Spent, spent_more}
 use Rattle.vm_turn.specs.Spending.{Spending, with_spent}
-use Rattle.std.proofs.Common.{◌≡◌, ◌⊎◌, inl, inr, refl, ap, sym, subst, ◌∙◌, ℕ, zero, suc, true, List, [], ◌∷◌, Some, slice_get, slice_set, eq-eqb, ne_eqb, arith}
+use Rattle.std.proofs.Common.{◌≡◌, refl, ap, sym, subst, ◌∙◌, ℕ, zero, suc, List, [], ◌∷◌, Some, slice_get, slice_set, eq-eqb, ne_eqb, arith}
 use Rattle.std.specs.Prelude.{remove}
 use Rattle.std.proofs.lemmas.Option.{same_Some}
 use Rattle.cap_words.specs.Words.{W}
 use Rattle.cap_words.specs.Seen.{Seen}
 use Rattle.quad_memory.specs.Image.{RomImage}
 use Rattle.instr_table.specs.declared.charge.Charge.{Charge}
-use Rattle.instr_table.specs.Code.{fetched}
-use Rattle.instr_table.specs.Types.{Grows, is_sponsor}
-use Rattle.instr_table.specs.Event.{Sent, Effects, Effect, Nothing, Sends, Creates, Assigns, Becomes, Sponsors, Grants, Reclaims, Starts, Stops, with_effect}
+use Rattle.instr_table.specs.Types.{Grows}
 use Rattle.instr_table.specs.Sheet.{Account, spend}
 use Rattle.instr_table.specs.Outcome.{Going, Goes}
-use Rattle.instr_table.specs.Lane.{Lane, begun, values, after_going, lane_row, gone}
-use Rattle.instr_table.specs.Reach.{Every}
-use Rattle.instr_table.proofs.GotWords.{every-append}
+use Rattle.instr_table.specs.Lane.{Lane, begun, after_going, lane_row, gone}
 use Rattle.instr_table.proofs.ShownWords.{shown-stays}
 use Rattle.instr_table.proofs.Makings.{keeps-code_out}
 use Rattle.vm_sponsor.specs.declared.amounts.Amounts.{Amounts}
-use Rattle.vm_turn.specs.State.{Message, State, root}
+use Rattle.vm_turn.specs.State.{Message, State}
 use Rattle.vm_turn.specs.Turn.{go_on}
 use Rattle.vm_turn.specs.Sound.{Sound, FlightSound}
 use Rattle.vm_turn.proofs.Sums.{length-set}
-use Rattle.vm_turn.proofs.Slots.{sponsor-among}
 use Rattle.vm_turn.proofs.Taken.{every-get, every-removed}
 use Rattle.hum_meaning.specs.Value.{Behaviour}
 use Rattle.hum_meaning.specs.Deliver.{Configuration}
@@ -41,7 +36,7 @@ use Rattle.vm_turn.proofs.Actors.{going-seen, going-rom}
 use Rattle.instr_table.specs.Plain.{PlainCells, PlainEffect, PlainOutcome}
 use Rattle.instr_table.proofs.Plain.{lane-plain, plain-sheet}
 use Rattle.hum_code.proofs.Programs.{plain_cells}
-use Rattle.vm_turn.proofs.Root.{root-spends, only-root}
+use Rattle.vm_turn.proofs.Root.{root-spends}
 use Rattle.hum_sim.proofs.Growth.{actor_later, message_later, lane_later}
 use Rattle.hum_sim.proofs.Lanes.{lane_stands, others_numbers}
 use Rattle.hum_sim.proofs.Dispatches.{Targets}

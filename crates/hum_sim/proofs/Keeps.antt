@@ -1,7 +1,7 @@
 -- Every turn keeps that the state stands for the configuration after its journal.
-use Rattle.instr_table.specs.Spent.{Spent, spent_in_kind, spent_more, unspent}
+use Rattle.instr_table.specs.Spent.{Spent, spent_more, unspent}
 use Rattle.vm_turn.specs.Spending.{Spending, charged_spending, go_spending, step_spending, turn_spending, unless_out_spending, with_spent}
-use Rattle.std.proofs.Common.{◌≡◌, ◌⊎◌, inl, inr, refl, ap, sym, subst, ◌∙◌, ℕ, ◌+◌, Bool, true, false, List, [], length, Option, Some, None, slice_get, eq-eqb, ne_eqb, arith, append-nil, if◌then◌else◌}
+use Rattle.std.proofs.Common.{◌≡◌, ◌⊎◌, inl, inr, refl, ap, sym, subst, ◌∙◌, ℕ, Bool, true, false, List, [], length, Option, Some, None, slice_get, eq-eqb, ne_eqb, arith, append-nil, if◌then◌else◌}
 use Rattle.std.specs.Prelude.{◌%◌}
 use Rattle.std.proofs.lemmas.Option.{none-some, same_Some}
 use Rattle.cap_words.specs.Words.{W, same_word}
@@ -13,7 +13,7 @@ use Rattle.instr_table.specs.declared.charge.Quota.{Quota}
 use Rattle.instr_table.specs.Event.{Sent, no_effects}
 use Rattle.instr_table.specs.Sheet.{Account, account, short, spend, stop}
 use Rattle.instr_table.specs.Outcome.{Outcome, Goes, Faults, Commits}
-use Rattle.instr_table.specs.Lane.{Lane, lane_row, gone}
+use Rattle.instr_table.specs.Lane.{Lane, lane_row}
 use Rattle.vm_sponsor.specs.declared.amounts.Amounts.{Amounts}
 use Rattle.vm_turn.specs.declared.journal.Outcome.{Outcome as End}
 use Rattle.vm_turn.specs.declared.journal.Outcome.TheVariants.{Committed, Failed, RanOut}
@@ -46,15 +46,13 @@ use Rattle.hum_sim.proofs.Texts.{writes_same}
 use Rattle.hum_sim.proofs.Pending.{Pending, head_found, first_least, head_least}
 use Rattle.hum_sim.proofs.Stores.{Unborn}
 use Rattle.vm_turn.proofs.Root.{root-spends, root-stops, root-prepared}
-use Rattle.hum_sim.proofs.Lanes.{lane_stands, lane_in, others_numbers, created_once, names_distinct, sent_under_root, follows}
+use Rattle.hum_sim.proofs.Lanes.{lane_stands, lane_in, created_once, names_distinct, sent_under_root, follows}
 use Rattle.hum_sim.proofs.Bounds.{delivers, next_within, now_within, spent_within}
 use Rattle.hum_sim.proofs.Choosing as choosing
 use Rattle.hum_sim.proofs.Dispatches as dispatches
 use Rattle.hum_sim.proofs.Dispatches.{Targets, printed_to}
-use Rattle.instr_table.proofs.Plain.{plain-sheet}
-use Rattle.hum_sim.proofs.Payments.{spent_due, nothing_spent, spent_in, spends_due, stops_free, removed_spent, set_spent, begun_spent, same_spent}
 use Rattle.hum_code.proofs.Programs.{names_run}
-use Rattle.hum_sim.proofs.GoesOn.{plain, goes_on_stands}
+use Rattle.hum_sim.proofs.GoesOn.{goes_on_stands}
 use Rattle.hum_sim.proofs.Finishes.{finish_stands, nothing_commits}
 use Rattle.vm_turn.proofs.Taken.{every-get}
 
@@ -119,13 +117,6 @@ module _ (lay : Layout) (rom_of : RomImage) (program : HoldsProgram rom_of.boot 
     abbrev sheet' : List Account
     sheet' = spend s.sheet l.own.sponsor charge
 
-    due_paid : (kind : Quota) → spent_in kind sheet' + spent_in_kind kind (spent l.number) ≡ spent_in kind s.sheet + spent_in_kind kind (spent_next l.number)
-    due_paid kind =
-        let a = spends_due s.sheet s.out_of h.root kind l.own.sponsor f.sponsor charge in
-        let b = spent_due kind (spent l.number) charge in
-        let e = ap (spent_in_kind kind) spent_here in
-        omega (arith, a, b, e)
-
     enters : (spent' : Spending) (end : Ending) (d : Configuration Tests) → Leads language c f.message end d
         → ((k : ℕ) (cost : Cost) → bound language (c, f.message) k ≡ Some cost → SpentWithin (spent' l.number) cost)
         → EntersLegally language s.lanes (spent' l.number) c (record { message = l.number; ending = end }) d
@@ -136,7 +127,7 @@ module _ (lay : Layout) (rom_of : RomImage) (program : HoldsProgram rom_of.boot 
     }
 
     commits_next : Events (finish s i l sheet' l.effects Committed) → (lane_row s.store s.sheet l).outcome ≡ Commits
-        → Next lay rom_of.cells spent spent_next s (finish s i l sheet' l.effects Committed) c
+        → Next lay rom_of.cells spent_next s (finish s i l sheet' l.effects Committed) c
     commits_next events r =
         let d = (follows lay rom_of program spent s c ok h i l at).commits l.number s.store l (spent l.number) s.sheet f.reached (names_distinct lay rom_of program spent s c ok h i l at) r in
         let own = lane_in lay rom_of program spent s c ok h i l at in
@@ -155,21 +146,16 @@ module _ (lay : Layout) (rom_of : RomImage) (program : HoldsProgram rom_of.boot 
                 (d.0, delivers lay rom_of program spent s c ok h i l at d.0 ∙ ap (λ o. responded c f.message o) d.3) paid_within;
             out = λ e. absurd e;
           });
-          paid = λ kind.
-              let a = due_paid kind in
-              let b = removed_spent kind spent spent_next s.flight i l at others_spend (others_numbers lay rom_of program spent s c ok h i l at) in
-              omega (arith, a, b);
         }
 
     -- an end without effect
     drops : (spent' : Spending) → ((k : ℕ) → (k ≡ l.number → ⊥) → spent' k ≡ spent k) → (end : End) (ending : Ending) (sheet : List Account) (out : Option Quota)
         → RootAlone sheet out → EndsAs end ending → Leads language c f.message ending (drop c f.message)
         → ((k : ℕ) (cost : Cost) → bound language (c, f.message) k ≡ Some cost → SpentWithin (spent' l.number) cost)
-        → ((kind : Quota) → spent_in kind sheet + spent_in_kind kind (spent l.number) ≡ spent_in kind s.sheet + spent_in_kind kind (spent' l.number))
         → (HasRunOut ending → (kind : Quota) × (end ≡ RanOut kind) × (out ≡ Some kind))
         → Events (record (finish s i l sheet no_effects end) { out_of = out })
-        → Next lay rom_of.cells spent spent' s (record (finish s i l sheet no_effects end) { out_of = out }) c
-    drops spent' spends end ending sheet out alone ends leads within costs outs events = record {
+        → Next lay rom_of.cells spent' s (record (finish s i l sheet no_effects end) { out_of = out }) c
+    drops spent' spends end ending sheet out alone ends leads within outs events = record {
       configuration = drop c f.message;
       stands =
           subst (StateStands lay rom_of.cells spent' (record (finish s i l sheet no_effects end) { out_of = out })) (nothing_commits c f.message)
@@ -184,32 +170,23 @@ module _ (lay : Layout) (rom_of : RomImage) (program : HoldsProgram rom_of.boot 
         enters = enters spent' ending (drop c f.message) leads within;
         out = outs;
       });
-      paid = λ kind.
-          let a = costs kind in
-          let b = removed_spent kind spent spent' s.flight i l at spends (others_numbers lay rom_of program spent s c ok h i l at) in
-          omega (arith, a, b);
     }
 
     faults_next : (w : W) → Events (finish s i l sheet' no_effects (Failed w)) → (lane_row s.store s.sheet l).outcome ≡ Faults w
-        → Next lay rom_of.cells spent spent_next s (finish s i l sheet' no_effects (Failed w)) c
+        → Next lay rom_of.cells spent_next s (finish s i l sheet' no_effects (Failed w)) c
     faults_next w events r =
         let d = (follows lay rom_of program spent s c ok h i l at).fails l.number s.store l (spent l.number) s.sheet w f.reached (names_distinct lay rom_of program spent s c ok h i l at) r in
         drops spent_next others_spend (Failed w) (FailsWith d.1) sheet' s.out_of (root-spends s.sheet s.out_of h.root l.own.sponsor charge f.sponsor) d.4
-        (d.0, d.2, delivers lay rom_of program spent s c ok h i l at d.0 ∙ ap (λ o. responded c f.message o) d.3) paid_within due_paid (λ e. absurd e) events
+        (d.0, d.2, delivers lay rom_of program spent s c ok h i l at d.0 ∙ ap (λ o. responded c f.message o) d.3) paid_within (λ e. absurd e) events
 
     -- ---- an instruction
 
-    act_next : (o : Outcome) → Events (act s i l sheet' o).0 → (lane_row s.store s.sheet l).outcome ≡ o → Next lay rom_of.cells spent spent_next s (act s i l sheet' o).0 c
+    act_next : (o : Outcome) → Events (act s i l sheet' o).0 → (lane_row s.store s.sheet l).outcome ≡ o → Next lay rom_of.cells spent_next s (act s i l sheet' o).0 c
     act_next (Goes g) events r = record {
       configuration = c;
       stands = goes_on_stands lay rom_of program spent s c ok h i l at g r charge events.sound events.targets;
       lanes = refl;
       step = inl (refl, refl);
-      paid = λ kind.
-          let a = due_paid kind in
-          let b = set_spent kind spent spent_next s.flight i l at others_spend (others_numbers lay rom_of program spent s c ok h i l at) (gone s.store l g) refl in
-          let e = ap (spent_in kind) (plain-sheet sheet' l.own.sponsor s.store g.effect (plain lay rom_of program spent s c ok h i l at g r charge)) in
-          omega (arith, a, b, e);
     }
     act_next (Faults w) events r = faults_next w events r
     act_next Commits events r = commits_next events r
@@ -224,20 +201,19 @@ module _ (lay : Layout) (rom_of : RomImage) (program : HoldsProgram rom_of.boot 
         ∙ ap (λ (o : Option W). record (released o kind (finish s i l (stop s.sheet l.own.sponsor) no_effects (RanOut kind))) { out_of = Some kind }) b
 
     charged_next : (o : Option Quota) → Events (charged s i l (lane_row s.store s.sheet l) o).0
-        → Next lay rom_of.cells spent (charged_spending spent l (lane_row s.store s.sheet l) o) s (charged s i l (lane_row s.store s.sheet l) o).0 c
+        → Next lay rom_of.cells (charged_spending spent l (lane_row s.store s.sheet l) o) s (charged s i l (lane_row s.store s.sheet l) o).0 c
     charged_next None events = act_next (lane_row s.store s.sheet l).outcome events refl
     charged_next (Some kind) events =
-        subst (λ (t : State). Next lay rom_of.cells spent spent s t c) (sym (out_is kind))
+        subst (λ (t : State). Next lay rom_of.cells spent s t c) (sym (out_is kind))
         (drops spent (λ k d. refl) (RanOut kind) RunsOut (stop s.sheet l.own.sponsor) (Some kind) (root-stops s.sheet s.out_of h.root l.own.sponsor kind f.sponsor) tt refl
         (spent_within lay rom_of program spent s c ok h i l at (spent l.number) (now_within lay rom_of program spent s c ok h i l at))
-        (λ k. let a = stops_free s.sheet s.out_of h.root k l.own.sponsor f.sponsor in omega (arith, a))
         (λ e. (kind, refl, refl))
         (subst Events (out_is kind) events))
 
-  still : Next lay rom_of.cells spent spent s s c
-  still = record { configuration = c; stands = h; lanes = refl; step = inl (refl, refl); paid = λ kind. omega arith }
+  still : Next lay rom_of.cells spent s s c
+  still = record { configuration = c; stands = h; lanes = refl; step = inl (refl, refl) }
 
-  step_next : (i : ℕ) (o : Option Lane) → slice_get s.flight i ≡ o → Events (step s i o).0 → Next lay rom_of.cells spent (step_spending spent s o) s (step s i o).0 c
+  step_next : (i : ℕ) (o : Option Lane) → slice_get s.flight i ≡ o → Events (step s i o).0 → Next lay rom_of.cells (step_spending spent s o) s (step s i o).0 c
   step_next i None at events = still
   step_next i (Some l) at events = charged_next i l at (short (account s.sheet l.own.sponsor) (lane_row s.store s.sheet l).charge) events
 
@@ -259,19 +235,16 @@ module _ (lay : Layout) (rom_of : RomImage) (program : HoldsProgram rom_of.boot 
     abbrev spent' : Spending
     spent' = with_spent spent m.number unspent
 
-    begin_next : device_of x.target ≡ None → Events (begin s m.number x) → Next lay rom_of.cells spent spent' s (begin s m.number x) c
+    begin_next : device_of x.target ≡ None → Events (begin s m.number x) → Next lay rom_of.cells spent' s (begin s m.number x) c
     begin_next none events =
         let e = dispatches.begin_is lay rom_of program spent s c ok h running m chosen in
         let there = subst Events e events in
-        subst (λ (t : State). Next lay rom_of.cells spent spent' s t c) (sym e)
+        subst (λ (t : State). Next lay rom_of.cells spent' s t c) (sym e)
         (record {
           configuration = c;
           stands = dispatches.dispatch_stands lay rom_of program spent s c ok h running m chosen (sym (ap (λ (y : Sent). device_of y.target) sent_is) ∙ none) there.sound there.targets;
           lanes = refl;
           step = inl (refl, refl);
-          paid = λ kind.
-              let b = begun_spent kind spent m.number s.flight (dispatches.new lay rom_of program spent s c ok h running m chosen) (dispatches.others_numbers lay rom_of program spent s c ok h running m chosen) refl in
-              omega (arith, b);
         })
 
     -- the value is printed
@@ -301,7 +274,7 @@ module _ (lay : Layout) (rom_of : RomImage) (program : HoldsProgram rom_of.boot 
         subst (λ (n : Spent). SpentWithin n cost) (sym same) (record { cycles = omega arith; memory = omega arith; events = omega arith })
 
     ends_next : (end : End) (ending : Ending) (bytes : List ℕ) → EndsAs end ending → (HasRunOut ending → ⊥) → Leads language c p ending (printed_to lay rom_of program spent s c ok h running m chosen bytes)
-        → Events (delivered s m.number end bytes) → Next lay rom_of.cells spent spent' s (delivered s m.number end bytes) c
+        → Events (delivered s m.number end bytes) → Next lay rom_of.cells spent' s (delivered s m.number end bytes) c
     ends_next end ending bytes ends no_out leads events = record {
       configuration = printed_to lay rom_of program spent s c ok h running m chosen bytes;
       stands = dispatches.device_stands lay rom_of program spent s c ok h running m chosen end bytes events.sound events.targets;
@@ -318,22 +291,17 @@ module _ (lay : Layout) (rom_of : RomImage) (program : HoldsProgram rom_of.boot 
         };
         out = λ e. absurd (no_out e);
       });
-      paid = λ kind.
-          let b = same_spent kind spent m.number s.flight (dispatches.others_numbers lay rom_of program spent s c ok h running m chosen) in
-          let same : spent' m.number ≡ unspent = rw (eq-eqb m.number m.number refl) refl in
-          let e = ap (spent_in_kind kind) same ∙ nothing_spent kind in
-          omega (arith, b, e);
     }
 
     deliver_next : (d : ℕ) (o : Option (List ℕ)) → device_of x.target ≡ Some d → piece d s.store x.content ≡ o → Events (deliver s m.number o).0
-        → Next lay rom_of.cells spent spent' s (deliver s m.number o).0 c
+        → Next lay rom_of.cells spent' s (deliver s m.number o).0 c
     deliver_next d (Some bytes) dev wrote events =
         ends_next Committed after.Commits bytes tt (λ e. e) (0, prints d dev ∙ ap (λ (o : Option (List ℕ)). printed c p o) wrote) events
     deliver_next d None dev wrote events =
         ends_next refused (FailsWith 8) [] refl (λ e. e)
         (0, 0, prints d dev ∙ (ap (λ (o : Option (List ℕ)). printed c p o) wrote ∙ ap (λ (o : List ℕ). meaning.Failed 8 0 (record (drop c p) { output = o })) (sym (append-nil c.output)))) events
 
-    dispatch_next : (d : Option ℕ) → device_of x.target ≡ d → Events (dispatch s m.number x d).0 → Next lay rom_of.cells spent spent' s (dispatch s m.number x d).0 c
+    dispatch_next : (d : Option ℕ) → device_of x.target ≡ d → Events (dispatch s m.number x d).0 → Next lay rom_of.cells spent' s (dispatch s m.number x d).0 c
     dispatch_next None dev events = begin_next dev events
     dispatch_next (Some d) dev events = deliver_next d (piece d s.store x.content) dev refl events
 
@@ -368,15 +336,15 @@ module _ (lay : Layout) (rom_of : RomImage) (program : HoldsProgram rom_of.boot 
 
   -- ---- the turn
 
-  go_next : (running : s.out_of ≡ None) (pick : ℕ) (o : Option Message) → dispatchable s ≡ o → Events (go s pick o).0 → Next lay rom_of.cells spent (go_spending spent s pick o) s (go s pick o).0 c
+  go_next : (running : s.out_of ≡ None) (pick : ℕ) (o : Option Message) → dispatchable s ≡ o → Events (go s pick o).0 → Next lay rom_of.cells (go_spending spent s pick o) s (go s pick o).0 c
   go_next running pick None e events = step_next (pick % length s.flight) (slice_get s.flight (pick % length s.flight)) refl events
   go_next running pick (Some m) e events = dispatch_next running m e (device_of (sent_at s.store m.event).target) refl events
 
-  unless_next : (pick : ℕ) (o : Option Quota) → s.out_of ≡ o → Events (unless_spent s pick o).0 → Next lay rom_of.cells spent (unless_out_spending spent s pick o) s (unless_spent s pick o).0 c
+  unless_next : (pick : ℕ) (o : Option Quota) → s.out_of ≡ o → Events (unless_spent s pick o).0 → Next lay rom_of.cells (unless_out_spending spent s pick o) s (unless_spent s pick o).0 c
   unless_next pick (Some kind) e events = still
   unless_next pick None e events = go_next e pick (dispatchable s) refl events
 
-  pub turn_next : (pick : ℕ) → Next lay rom_of.cells spent (turn_spending spent s pick) s (turn s pick).0 c
+  pub turn_next : (pick : ℕ) → Next lay rom_of.cells (turn_spending spent s pick) s (turn s pick).0 c
   turn_next pick =
       let sound = turn-flight s ok h.flight.sound pick in
       unless_next pick s.out_of refl (record { sound = sound; targets = flight-actors (turn s pick).0 (turn-sound grant s ok pick) sound })

@@ -10,7 +10,6 @@ pub mod GoesOn
 pub mod Finishes
 pub mod Bounds
 pub mod Texts
-pub mod Payments
 pub mod Keeps
 pub mod Outs
 pub mod Causes
@@ -22,3 +21,4 @@ pub mod Runs
 pub mod Stops
 pub mod OneLane
 pub mod Emitted
+pub mod Simulated

@@ -1,9 +1,7 @@
 -- What a turn makes of what a state stands for, in the program's own language.
-use Rattle.instr_table.specs.Spent.{Spent, spent_in_kind}
-use Rattle.vm_turn.specs.Spending.{Spending, spent_in_flight}
-use Rattle.hum_sim.specs.Spent.{spent_by_root}
-use Rattle.std.specs.Prelude.{◌≡◌, ◌⊎◌, ℕ, ◌+◌, List, [], ◌∷◌, ◌++◌, Some}
-use Rattle.std.proofs.Common.{inl, inr}
+use Rattle.instr_table.specs.Spent.{Spent}
+use Rattle.vm_turn.specs.Spending.{Spending}
+use Rattle.std.specs.Prelude.{◌≡◌, ◌⊎◌, ℕ, List, [], ◌∷◌, ◌++◌, Some}
 use Rattle.instr_table.specs.declared.charge.Quota.{Quota}
 use Rattle.cap_words.specs.declared.word.Quad.{Quad}
 use Rattle.vm_turn.specs.declared.journal.Entry.{Entry}
@@ -14,13 +12,12 @@ use Rattle.hum_meaning.specs.Language.{Language}
 use Rattle.hum_meaning.specs.Deliver.{Configuration}
 use Rattle.hum_meaning.specs.After as after
 use Rattle.hum_meaning.specs.After.{Enters}
-use Rattle.hum_core.specs.Bound.{Cost, bound}
 use Rattle.hum_core.specs.TestLists.{Tests, tests_language}
 use Rattle.hum_code.specs.Layout.{Layout}
 use Rattle.hum_sim.specs.Journal.{EntryAs, HasRunOut}
 use Rattle.hum_sim.specs.Standing.{StateStands}
 use Rattle.hum_sim.specs.Legal.{IsItsTurn}
-use Rattle.hum_sim.specs.Within.{SpentWithin, IsWithin}
+use Rattle.hum_sim.specs.Within.{IsWithin}
 
 -- an entry ends a pending message whose turn it is, and its event spent no more than the delivery's bound
 pub record EntersLegally {L : Parts} (language : Language L) (lanes : ℕ) (spent : Spent) (c : Configuration L) (e : after.Entry) (d : Configuration L) : Type 0 where
@@ -38,16 +35,9 @@ pub record Entered (lay : Layout) (spent : Spending) (s t : State) (c d : Config
   -- an event runs out only where the root does
   pub out : HasRunOut delivery.ending → (kind : Quota) × (entry.outcome ≡ RanOut kind) × (t.out_of ≡ Some kind)
 
--- what the event of an added entry spent
-abbrev pub added_spent : {A : Type 0} {lay : Layout} {spent : Spending} {s t : State} {c d : Configuration Tests} → Quota → A ⊎ Entered lay spent s t c d → ℕ
-added_spent kind (inl a) = 0
-added_spent {spent = spent} kind (inr e) = spent_in_kind kind (spent e.entry.message)
-
 -- the next state stands for the same configuration, or for the one that the entry makes of it that the turn adds
-pub record Next (lay : Layout) (rom : List Quad) (before spent : Spending) (s t : State) (c : Configuration Tests) : Type 0 where
+pub record Next (lay : Layout) (rom : List Quad) (spent : Spending) (s t : State) (c : Configuration Tests) : Type 0 where
   pub configuration : Configuration Tests
   pub stands : StateStands lay rom spent t configuration
   pub lanes : t.lanes ≡ s.lanes
   pub step : ((t.journal ≡ s.journal) × (configuration ≡ c)) ⊎ Entered lay spent s t c configuration
-  -- what the root spends more, an event in flight does, or one that ends had spent
-  pub paid : (kind : Quota) → spent_by_root kind t + spent_in_flight kind before s.flight ≡ spent_by_root kind s + spent_in_flight kind spent t.flight + added_spent kind step

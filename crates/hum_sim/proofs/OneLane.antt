@@ -1,6 +1,6 @@
 -- With one lane a run's deliveries are those of the file in the order of their numbers.
-use Rattle.vm_turn.specs.Spending.{Spending, spent_in_run}
-use Rattle.std.proofs.Common.{◌≡◌, refl, ap, sym, subst, ◌∙◌, ℕ, zero, suc, ◌+◌, ◌≤◌, List, [], ◌∷◌, ◌++◌, length, map, sum, Option, Some, None, slice_get, arith, append-nil}
+use Rattle.vm_turn.specs.Spending.{spent_in_run}
+use Rattle.std.proofs.Common.{◌≡◌, refl, ap, sym, subst, ◌∙◌, ℕ, zero, suc, ◌≤◌, List, [], ◌∷◌, ◌++◌, length, map, sum, Option, Some, None, slice_get, arith, append-nil}
 use Rattle.std.proofs.lemmas.Option.{none-some, same_Some}
 use Rattle.quad_memory.specs.Image.{RomImage}
 use Rattle.instr_table.specs.declared.charge.Quota.{Quota}
@@ -8,11 +8,9 @@ use Rattle.instr_table.specs.Lane.{Lane}
 use Rattle.vm_sponsor.specs.declared.amounts.Amounts.{Amounts}
 use Rattle.vm_turn.specs.declared.journal.Entry as machine
 use Rattle.vm_turn.specs.declared.journal.Turn.TheVariants.{Rest}
-use Rattle.vm_turn.specs.State.{State}
 use Rattle.vm_turn.specs.Turn.{turn}
 use Rattle.vm_turn.specs.Changes.{place}
 use Rattle.vm_turn.specs.Run.{run}
-use Rattle.vm_turn.specs.Sound.{Sound}
 use Rattle.vm_turn.proofs.RunsSound.{run-sound}
 use Rattle.vm_turn.proofs.Taken.{every-get}
 use Rattle.hum_syntax.specs.declared.tree.Stmt.{Stmt}
@@ -28,8 +26,7 @@ use Rattle.hum_meaning.proofs.Law.{Lawful}
 use Rattle.hum_meaning.proofs.NamedLaw.{named_lawful}
 use Rattle.hum_meaning.proofs.Deliveries.{deliver_once}
 use Rattle.hum_core.specs.Alike.{Both, Each}
-use Rattle.hum_core.specs.Bound.{Cost, HasBound, Fit}
-use Rattle.hum_core.specs.Likeness.{IsPending}
+use Rattle.hum_core.specs.Bound.{Cost, HasBound}
 use Rattle.hum_core.specs.Programs.{FileAs}
 use Rattle.hum_core.specs.TestLists.{Tests}
 use Rattle.hum_core.proofs.Programs.{program_means}

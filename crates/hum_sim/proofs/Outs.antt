@@ -1,5 +1,5 @@
 -- The turn in which the root runs out.
-use Rattle.std.proofs.Common.{◌≡◌, inl, inr, refl, ap, sym, subst, ◌∙◌, ℕ, List, [], ◌∷◌, ◌++◌, Option, Some, None}
+use Rattle.std.proofs.Common.{◌≡◌, inl, inr, refl, ap, sym, subst, ◌∙◌, ℕ, [], ◌∷◌, ◌++◌, Option, Some, None}
 use Rattle.std.proofs.lemmas.Option.{none-some, same_Some}
 use Rattle.cap_words.specs.Words.{W}
 use Rattle.instr_table.specs.declared.charge.Quota.{Quota}
@@ -11,7 +11,7 @@ use Rattle.vm_turn.specs.declared.journal.Turn.{Turn as Answer}
 use Rattle.vm_turn.specs.declared.journal.Turn.TheVariants.{Dispatched, Stepped, Finished, Rest, Spent}
 use Rattle.vm_turn.specs.State.{State, root}
 use Rattle.vm_turn.specs.Turn.{entry, released, turn}
-use Rattle.vm_turn.specs.Changes.{Picked, next_row, place, exhausted, Ends, Changes}
+use Rattle.vm_turn.specs.Changes.{Picked, next_row, Ends, Changes}
 use Rattle.vm_turn.proofs.Changed.{turns-change}
 use Rattle.hum_sim.specs.Runs.{RootIsShort}
 

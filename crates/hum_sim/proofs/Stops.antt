@@ -1,18 +1,18 @@
 -- Why a run of a file's image stops.
 use Rattle.instr_table.specs.Spent.{spent_in_kind}
-use Rattle.vm_turn.specs.Spending.{Spending, spent_in_run}
-use Rattle.hum_sim.specs.Spent.{spent_by_finished}
-use Rattle.std.proofs.Common.{◌≡◌, refl, ap, sym, subst, ◌∙◌, ℕ, ◌+◌, ◌≤◌, List, [], ◌∷◌, ◌++◌, map, sum, Option, Some, None, slice_get, arith}
+use Rattle.vm_turn.specs.Spending.{Spending, spent_in_run, spent_by_ended}
+use Rattle.std.proofs.Common.{◌≡◌, refl, ap, sym, subst, ◌∙◌, ℕ, ◌+◌, ◌≤◌, List, [], ◌∷◌, ◌++◌, map, sum, Option, Some, None, arith}
 use Rattle.std.proofs.lemmas.List.Sums.{sum_by-cons}
 use Rattle.std.proofs.lemmas.Option.{none-some}
 use Rattle.cap_words.specs.Words.{W}
 use Rattle.quad_memory.specs.Image.{RomImage}
 use Rattle.instr_table.specs.declared.charge.Quota.{Quota}
 use Rattle.instr_table.specs.Sheet.{Account, account, amount, short}
-use Rattle.instr_table.specs.Lane.{Lane, lane_row}
+use Rattle.instr_table.specs.Lane.{lane_row}
 use Rattle.vm_sponsor.specs.declared.amounts.Amounts.{Amounts}
 use Rattle.vm_sponsor.specs.Ledger.{of_kind}
 use Rattle.vm_sponsor.specs.Totals.{kept, total}
+use Rattle.vm_turn.specs.declared.journal.Entry as machine
 use Rattle.vm_turn.specs.declared.journal.Turn.TheVariants.{Rest}
 use Rattle.vm_turn.specs.State.{State, root}
 use Rattle.vm_turn.specs.Boot.{booted}
@@ -30,14 +30,16 @@ use Rattle.hum_meaning.specs.Written.{humus}
 use Rattle.hum_meaning.specs.After as meaning
 use Rattle.hum_meaning.specs.After.{Entry, Follows}
 use Rattle.hum_core.specs.declared.tested.TestUnit.{TestUnit}
+use Rattle.hum_core.specs.Alike.{Each}
 use Rattle.hum_core.specs.Bound.{Cost, HaveBounds, Fit}
+use Rattle.hum_sim.specs.Journal.{EntryAs}
 use Rattle.hum_core.specs.TestLists.{tests_language}
 use Rattle.hum_core.proofs.Programs.{program_means}
 use Rattle.hum_code.specs.Layout.{Layout}
 use Rattle.hum_sim.specs.Program.{HoldsFile}
 use Rattle.vm_turn.specs.Alone.{RootAlone}
 use Rattle.hum_sim.specs.Within.{allowed, MessagesOf, AreWithin, FinishedBounds, NoChoiceFits}
-use Rattle.hum_sim.specs.Runs.{FollowsItsJournal, RootIsShort, RanOutBecause, BoundsFit, BoundsAlwaysFit, RunStands, RunsFollowTheirJournals}
+use Rattle.hum_sim.specs.Runs.{FollowsItsJournal, RootIsShort, RanOutBecause, BoundsAlwaysFit, RunStands, RunsFollowTheirJournals}
 use Rattle.vm_turn.proofs.Root.{root-account}
 use Rattle.hum_sim.proofs.Lanes.{lane_stands}
 use Rattle.hum_sim.proofs.Causes.{rest_means, rest_comes, sum_first, within_kind, none_fit}
@@ -47,18 +49,22 @@ use Rattle.hum_sim.proofs.Runs.{follows_journal, lanes_stay, what_follows}
 
 -- ---- sums
 
--- finished events spent no more than their bounds
-finished_within : {L : Parts} (language : Language L) (kind : Quota) (spent : Spending) (c : Configuration L) (es : List Entry) (d : Configuration L) (f : Follows language c es d)
-    → AreWithin language spent c es d f → (costs : List Cost) → FinishedBounds language c es d f costs → spent_by_finished kind spent es ≤ sum (map (allowed kind) costs)
-finished_within language kind spent c [] d f h [] b = omega arith
-finished_within language kind spent c [] d f h (x ∷ costs) b = absurd b
-finished_within language kind spent c (e ∷ es) d f h [] b = absurd b
-finished_within language kind spent c (e ∷ es) d f h (x ∷ costs) b =
+-- events that ended spent no more than the bounds of their deliveries
+ended_within : {L : Parts} (language : Language L) (kind : Quota) (spent : Spending) (c : Configuration L) (xs : List machine.Entry) (es : List Entry) (d : Configuration L)
+    → Each EntryAs xs es → (f : Follows language c es d) → AreWithin language spent c es d f → (costs : List Cost) → FinishedBounds language c es d f costs
+    → spent_by_ended kind spent xs ≤ sum (map (allowed kind) costs)
+ended_within language kind spent c [] [] d a f h [] b = omega arith
+ended_within language kind spent c [] [] d a f h (x ∷ costs) b = absurd b
+ended_within language kind spent c [] (e ∷ es) d a f h costs b = absurd a
+ended_within language kind spent c (y ∷ xs) [] d a f h costs b = absurd a
+ended_within language kind spent c (y ∷ xs) (e ∷ es) d a f h [] b = absurd b
+ended_within language kind spent c (y ∷ xs) (e ∷ es) d a f h (x ∷ costs) b =
     let one = within_kind kind (spent e.message) x (h.0 b.0.0 x b.0.1) in
-    let more = finished_within language kind spent f.0 es d f.2 h.1 costs b.1 in
-    let a = sum_by-cons (λ (y : Entry). spent_in_kind kind (spent y.message)) e es in
+    let same = ap (λ (n : ℕ). spent_in_kind kind (spent n)) a.0.message in
+    let more = ended_within language kind spent f.0 xs es d a.1 f.2 h.1 costs b.1 in
+    let p = sum_by-cons (λ (z : machine.Entry). spent_in_kind kind (spent z.message)) y xs in
     let s = sum_first kind x costs in
-    omega (arith, one, more, a, s)
+    omega (arith, one, same, more, p, s)
 
 pub sum_both : (kind : Quota) (xs ys : List Cost) → sum (map (allowed kind) (xs ++ ys)) ≡ sum (map (allowed kind) xs) + sum (map (allowed kind) ys)
 sum_both kind [] ys = omega arith
@@ -121,7 +127,7 @@ module _ (file : List Stmt) (image : RomImage) (layout : Layout) (grant : Amount
       → FinishedBounds humus (meaning.opening file) f.journal f.configuration f.follows finished → MessagesOf f.configuration s.flight messages
       → HaveBounds humus (map (λ m. (f.configuration, m)) messages) costs → Fit (allowed kind) (finished ++ costs) (of_kind kind grant) → RootIsShort kind s pick → ⊥
   all_paid kind pick finished messages costs b m g fit x =
-      let a = finished_within humus kind spent (meaning.opening file) f.journal f.configuration f.follows f.within finished b in
+      let a = ended_within humus kind spent (meaning.opening file) s.journal f.journal f.configuration f.same f.follows f.within finished b in
       let t = sum_both kind finished costs in
       let k = root_kept s.sheet s.out_of f.stands.stands.root kind in
       let c = sound.conserved kind in

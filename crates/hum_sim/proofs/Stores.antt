@@ -1,27 +1,23 @@
 -- What changes of actors leave of a store.
-use Rattle.std.proofs.Common.{◌≡◌, ◌⊎◌, inl, inr, refl, ap, sym, subst, ◌∙◌, ℕ, zero, suc, ◌≤◌, Bool, true, false, List, [], ◌∷◌, ◌++◌, Option, Some, None, slice_get, arith, append_assoc, drop}
+use Rattle.std.proofs.Common.{◌≡◌, inl, inr, refl, ap, sym, subst, ◌∙◌, ℕ, zero, suc, ◌≤◌, List, [], ◌∷◌, Option, Some, None, slice_get, arith}
 use Rattle.std.specs.Prelude.{pos}
 use Rattle.std.proofs.lemmas.Option.{none-some, same_Some, slice_get_within}
-use Rattle.cap_words.specs.Words.{W, Fix, Rom, Ram, Cap, same_word, undef}
+use Rattle.cap_words.specs.Words.{W, Fix, Rom, Ram, Cap, undef}
 use Rattle.cap_words.specs.Store.{cap_place}
 use Rattle.cap_words.specs.declared.word.Quad.{Quad}
 use Rattle.instr_table.specs.Code.{fetched_in}
 use Rattle.instr_table.specs.Making.{NoCodeInRam}
 use Rattle.vm_turn.proofs.Slots.{Alike}
-use Rattle.vm_turn.proofs.Actors.{actor-other, same-grows}
-use Rattle.cap_words.specs.Seen.{Seen, open_in, Slot, OpenSlot, ActorSlot, UnbornSlot, EventSlot, SponsorSlot, SpentSlot, slot_seen, altered, grown}
+use Rattle.vm_turn.proofs.Actors.{same-grows}
+use Rattle.cap_words.specs.Seen.{Seen, open_in, Slot, OpenSlot, ActorSlot, UnbornSlot, EventSlot, SponsorSlot, SpentSlot, slot_seen, altered}
 use Rattle.cap_words.specs.Frame.{Among}
-use Rattle.cap_words.proofs.Places.{get-left, get-set_same, get-set_other}
-use Rattle.cap_words.proofs.Same.{word_same, word_differs}
+use Rattle.cap_words.proofs.Places.{get-set_same, get-set_other}
 use Rattle.instr_table.specs.Types.{AnActor, look_up, opaque_in, Grows}
 use Rattle.instr_table.specs.Event.{Made, Behaviour}
-use Rattle.instr_table.specs.Outcome.{Going}
-use Rattle.instr_table.specs.Lane.{Item, after_going}
-use Rattle.instr_table.proofs.Authorities.{pushed-store}
 use Rattle.instr_table.proofs.ShownWords.{grows-then, changes-keep}
 use Rattle.vm_effects.specs.Actors.{all_idle}
 use Rattle.vm_effects.specs.Gathered.{made_words}
-use Rattle.vm_turn.specs.Actors.{remade, at_actor, busy, resting, is_idle_in}
+use Rattle.vm_turn.specs.Actors.{remade, at_actor, busy, resting}
 use Rattle.vm_turn.specs.Sound.{times}
 use Rattle.vm_turn.proofs.Events.{times-cons, times-head, times-among}
 

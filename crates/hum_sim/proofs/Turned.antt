@@ -1,10 +1,7 @@
 -- Every turn keeps that the state stands for a configuration of the file.
-use Rattle.instr_table.specs.Spent.{spent_in_kind}
-use Rattle.vm_turn.specs.Spending.{Spending, spent_in_flight, turn_spending}
-use Rattle.hum_sim.specs.Spent.{spent_by_root}
-use Rattle.std.proofs.Common.{◌≡◌, ◌⊎◌, inl, inr, refl, ap, sym, subst, ◌∙◌, ℕ, ◌+◌, List, None, arith}
+use Rattle.vm_turn.specs.Spending.{Spending, turn_spending}
+use Rattle.std.proofs.Common.{◌≡◌, ◌⊎◌, inl, inr, refl, sym, subst, ℕ, List, None}
 use Rattle.quad_memory.specs.Image.{RomImage}
-use Rattle.instr_table.specs.declared.charge.Quota.{Quota}
 use Rattle.vm_sponsor.specs.declared.amounts.Amounts.{Amounts}
 use Rattle.vm_turn.specs.State.{State}
 use Rattle.vm_turn.specs.Turn.{turn}
@@ -21,23 +18,11 @@ use Rattle.hum_core.specs.TestLists.{Tests, tests_language}
 use Rattle.hum_core.proofs.Programs.{program_means}
 use Rattle.hum_code.specs.Layout.{Layout}
 use Rattle.hum_sim.specs.Standing.{StateStands}
-use Rattle.hum_sim.specs.File.{StandsForFile}
 use Rattle.hum_sim.specs.Within.{IsWithin}
-use Rattle.hum_sim.specs.Turns.{AddsAnEntry, Keeps, TurnStands, TurnsKeepTheStanding}
+use Rattle.hum_sim.specs.Turns.{Keeps, TurnStands, TurnsKeepTheStanding}
 use Rattle.hum_sim.proofs.Keeps.{turn_next, spent_stays}
-use Rattle.hum_sim.proofs.Next.{EntersLegally, Entered, Next, added_spent}
+use Rattle.hum_sim.proofs.Next.{EntersLegally, Entered, Next}
 use Rattle.hum_sim.proofs.Files.{enters_back, none_forth}
-
--- what the event of an added entry spent
-abbrev pub added : {A : Type 0} {spent : Spending} {s t : State} {c d : Configuration (Named written)} → Quota → A ⊎ AddsAnEntry spent s t c d → ℕ
-added kind (inl a) = 0
-added {spent = spent} kind (inr e) = spent_in_kind kind (spent e.delivery.message)
-
--- what a turn keeps, and what the root spends more
-pub record Turned (file : List Stmt) (image : RomImage) (layout : Layout) (grant : Amounts) (spent : Spending) (s : State) (pick : ℕ) (c : Configuration (Named written)) : Type 0 where
-  pub stands : TurnStands file image layout grant spent s pick c
-  pub paid : (kind : Quota) → spent_by_root kind (turn s pick).0 + spent_in_flight kind spent s.flight
-      ≡ spent_by_root kind s + spent_in_flight kind (turn_spending spent s pick) (turn s pick).0.flight + added kind stands.step
 
 module _ (file : List Stmt) (image : RomImage) (layout : Layout) (grant : Amounts) (spent : Spending) (s : State) (c : Configuration (Named written))
     (h : Keeps file image layout grant spent s c) (pick : ℕ) where
@@ -60,48 +45,37 @@ module _ (file : List Stmt) (image : RomImage) (layout : Layout) (grant : Amount
   keeps : (c' : Configuration (Named written)) (d' : Configuration Tests) → (FileAs file).Configurations c' d' → StateStands layout image.cells spent' t d' → Keeps file image layout grant spent' t c'
   keeps c' d' a x = record { sound = turn-sound grant s h.sound pick; stands = record { holds = h.stands.holds; of_program = d'; alike = a; stands = x } }
 
-  pub turned : Turned file image layout grant spent s pick c
-  turned = by n.step n.paid
+  pub turned : TurnStands file image layout grant spent s pick c
+  turned = by n.step
     where
-      n : Next layout image.cells spent spent' s t d
+      n : Next layout image.cells spent' s t d
       n = turn_next layout image h.stands.holds.holds_program spent s d h.sound h.stands.stands pick
 
-      by : (x : ((t.journal ≡ s.journal) × (n.configuration ≡ d)) ⊎ Entered layout spent' s t d n.configuration)
-          → ((kind : Quota) → spent_by_root kind t + spent_in_flight kind spent s.flight ≡ spent_by_root kind s + spent_in_flight kind spent' t.flight + added_spent kind x)
-          → Turned file image layout grant spent s pick c
-      by (inl e) paid = record {
-        stands = record {
-          configuration = c;
-          keeps = keeps c n.configuration (subst (λ z. (FileAs file).Configurations c z) (sym e.1) h.stands.alike) n.stands;
-          lanes = n.lanes;
-          step = inl (e.0, refl);
-        };
-        paid = paid;
+      by : ((t.journal ≡ s.journal) × (n.configuration ≡ d)) ⊎ Entered layout spent' s t d n.configuration → TurnStands file image layout grant spent s pick c
+      by (inl e) = record {
+        configuration = c;
+        keeps = keeps c n.configuration (subst (λ z. (FileAs file).Configurations c z) (sym e.1) h.stands.alike) n.stands;
+        lanes = n.lanes;
+        step = inl (e.0, refl);
       }
-      by (inr a) paid =
+      by (inr a) =
           let enters = subst (λ (us : List TestUnit). EntersLegally (tests_language us) s.lanes (spent' a.entry.message) d a.delivery n.configuration) h.stands.holds.units a.enters in
           let b = enters_back file means s.lanes (spent' a.entry.message) c d n.configuration a.delivery h.stands.alike enters in
           record {
-            stands = record {
-              configuration = b.to;
-              keeps = keeps b.to n.configuration b.alike n.stands;
-              lanes = n.lanes;
-              step = inr (record {
-                entry = a.entry;
-                delivery = a.delivery;
-                added = a.added;
-                same = a.same;
-                enters = b.enters.enters;
-                in_turn = b.enters.in_order;
-                within = subst (λ (k : ℕ). IsWithin humus (c, b.enters.enters.message) (spent' k)) a.same.message b.enters.within;
-                out = a.out;
-              });
-            };
-            paid = λ kind.
-                let p = paid kind in
-                let e = ap (λ (k : ℕ). spent_in_kind kind (spent' k)) a.same.message in
-                omega (arith, p, e);
+            configuration = b.to;
+            keeps = keeps b.to n.configuration b.alike n.stands;
+            lanes = n.lanes;
+            step = inr (record {
+              entry = a.entry;
+              delivery = a.delivery;
+              added = a.added;
+              same = a.same;
+              enters = b.enters.enters;
+              in_turn = b.enters.in_order;
+              within = subst (λ (k : ℕ). IsWithin humus (c, b.enters.enters.message) (spent' k)) a.same.message b.enters.within;
+              out = a.out;
+            });
           }
 
 pub turns_keep_the_standing : TurnsKeepTheStanding
-turns_keep_the_standing file image layout grant spent s c h pick = (turned file image layout grant spent s c h pick).stands
+turns_keep_the_standing file image layout grant spent s c h pick = (turned file image layout grant spent s c h pick)

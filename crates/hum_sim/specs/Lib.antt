@@ -9,3 +9,5 @@ pub mod Turns
 pub mod Runs
 pub mod OneLane
 pub mod Emitted
+pub mod Compiled
+pub mod Sim

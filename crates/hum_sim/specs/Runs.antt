@@ -21,8 +21,8 @@ use Rattle.hum_core.specs.Alike.{Each}
 use Rattle.hum_core.specs.Bound.{Cost, HaveBounds, Fit}
 use Rattle.hum_code.specs.Layout.{Layout}
 use Rattle.hum_sim.specs.Program.{HoldsFile}
-use Rattle.vm_turn.specs.Spending.{Spending, spent_in_run, spent_in_flight}
-use Rattle.hum_sim.specs.Spent.{spent_by_finished, spent_by_root}
+use Rattle.vm_turn.specs.Spending.{Spending, spent_in_run, spent_in_flight, spent_by_ended}
+use Rattle.hum_sim.specs.Spent.{spent_by_root}
 use Rattle.hum_sim.specs.Journal.{EntryAs, AreDecided, HaveCodes}
 use Rattle.hum_sim.specs.Legal.{IsLegal, InOrderOfNumbers, NumberedFrom}
 use Rattle.hum_sim.specs.Within.{allowed, MessagesOf, AreWithin, FinishedBounds, NoChoiceFits}
@@ -32,7 +32,7 @@ use Rattle.hum_sim.specs.File.{StandsForFile}
 
 -- The machine's journal is one of deliveries of the file. They lead from the opening configuration to the one that the state stands for, in a
 -- legal order. Each event committed or failed as its delivery does, unless the root ran out. Each spent no more than its delivery's bound,
--- and what the root spent is what the finished events and those in flight did.
+-- and what the root spent is what the events that ended and those in flight did.
 pub record FollowsItsJournal (file : List Stmt) (image : RomImage) (layout : Layout) (spent : Spending) (s : State) : Type 0 where
   pub journal : List after.Entry
   pub configuration : Configuration (Named written)
@@ -42,7 +42,7 @@ pub record FollowsItsJournal (file : List Stmt) (image : RomImage) (layout : Lay
   pub stands : StandsForFile file image layout spent s configuration
   pub decided : s.out_of ≡ None → AreDecided journal
   pub within : AreWithin humus spent (after.opening file) journal configuration follows
-  pub paid : (kind : Quota) → spent_by_root kind s ≡ spent_by_finished kind spent journal + spent_in_flight kind spent s.flight
+  pub paid : (kind : Quota) → spent_by_root kind s ≡ spent_by_ended kind spent s.journal + spent_in_flight kind spent s.flight
 
 -- What follows from that: the output is the configuration's; each failure has one of the codes 1 to 8; messages to one target finish in the order
 -- of their numbers, and with one lane the journal's numbers are 0, 1, 2 and so on.

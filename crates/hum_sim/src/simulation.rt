@@ -1,4 +1,5 @@
 // A program that runs on the machine.
+
 ghost use Rattle.std.specs.Prelude.{◌≡◌, ◌+◌, ◌≤◌, IfOk};
 ghost use Rattle.hum_outside.specs.Outside.{HasCause};
 ghost use Rattle.vm_turn.specs.Boot.{booted};
@@ -6,11 +7,11 @@ ghost use Rattle.vm_turn.specs.Run.{drawn, drawn_after, pick_of};
 ghost use Rattle.vm_turn.specs.Turn.{turn};
 ghost use Rattle.vm_machine.specs.Machine.{turns_by};
 ghost use Rattle.vm_machine.specs.Turns.{Takes};
-ghost use Rattle.hum_whole.specs.Sim.{Stands, Completes};
+ghost use Rattle.hum_sim.specs.Sim.{Stands, Completes, KeepsStanding};
 
 use crate::compiling::Compiled;
 use hum_outside::Sink;
-use std::alloc::{AllocError, Global};
+use std::alloc::{AllocError as NoMemory, Global};
 use std::marker::Model;
 use vm_devices::WriteFault;
 use vm_machine::{Lanes, Machine};
@@ -28,8 +29,7 @@ impl Model for Sim {
     ghost use Rattle.std.specs.Coded.{codes};
     ghost use Rattle.hum_syntax.specs.contracts.tree.Stmt as stmt;
     ghost use Rattle.hum_core.specs.contracts.tested.TestUnit as unit;
-    ghost use Rattle.hum_whole.specs.Compiled.{IsCompiled};
-    ghost use Rattle.hum_whole.specs.Sim.{Sim as Shown};
+    ghost use Rattle.hum_sim.specs.Sim.{Sim as Shown, RunsItsImage};
 
     ghost Value = { Shown };
 
@@ -37,17 +37,17 @@ impl Model for Sim {
 
     ghost view = { λ s. record { compiled = s.compiled; machine = s.machine } };
 
-    ghost invariant = { λ s. IsCompiled s.compiled.tree s.compiled.units s.machine.image };
+    ghost invariant = { λ s. RunsItsImage (record { compiled = s.compiled; machine = s.machine }) };
 }
 
 impl Sim {
-    /// The machine that the program's image boots to, under a grant. The lanes are from 1 to 64. All memory is taken here.
+    /// The machine that the program's image boots to, under a grant. The lanes are from 1 to 64. All memory of the run is taken here.
     pub fn boot(
         alloc: Global,
         compiled: Compiled,
         grant: Grant,
         lanes: Lanes,
-    ) -> Result<Sim, AllocError>
+    ) -> Result<Sim, NoMemory>
         requires some_lanes { 1 ≤ lanes.count }
         requires lanes_limit { lanes.count ≤ 64 }
         ensures compiled { IfOk result (λ s. s.compiled ≡ compiled) }
@@ -56,7 +56,7 @@ impl Sim {
         ensures seed { IfOk result (λ s. s.machine.seed ≡ lanes.seed) }
         ensures turns { IfOk result (λ s. s.machine.turns ≡ 0) }
     {
-        let machine = Machine::boot(alloc, &compiled.image(), grant, lanes)?;
+        let machine = Machine::boot(alloc, compiled.image(), grant, lanes)?;
         Ok(Sim { compiled, machine })
     }
 
@@ -70,20 +70,25 @@ impl Sim {
         Sim { compiled, machine }
     }
 
-    /// One turn of the machine. After it, as after all turns, the machine stands for the program's configuration after its journal.
+    /// One turn of the machine, as `Machine::turn`. After it the machine stands for the file's configuration after its journal: for the same
+    /// one as before, or for the one that the entry makes of it that the turn adds. It runs out only for its cause.
     pub fn turn<K: Sink>(&mut self, out: &mut K) -> Result<Turn, WriteFault>
         ensures turn { Takes (turn self.old.machine.state (pick_of (drawn (drawn_after self.old.machine.seed self.old.machine.turns)))) result self.old.machine.state self.new.machine.state (K.written out.old) (K.written out.new) }
         ensures turns { self.new.machine.turns ≡ self.old.machine.turns + turns_by self.old.machine.state.out_of result }
         ensures unchanged { turns_by self.old.machine.state.out_of result ≡ 0 → self.new.machine ≡ self.old.machine }
         ensures compiled { self.new.compiled ≡ self.old.compiled }
+        ensures image { self.new.machine.image ≡ self.old.machine.image }
         ensures grant { self.new.machine.grant ≡ self.old.machine.grant }
         ensures seed { self.new.machine.seed ≡ self.old.machine.seed }
         ensures lanes { self.new.machine.state.lanes ≡ self.old.machine.state.lanes }
         ensures stands { Stands self.new }
+        ensures keeps { KeepsStanding self.old self.new }
         ensures completes { self.new.machine.state.lanes ≡ 1 → Completes self.new }
         ensures cause { HasCause (K.faults out.old) (K.faults out.new) result }
     {
-        self.machine.turn(out)
+        let answer = self.machine.turn(out);
+        let _turns = self.machine.turns();
+        answer
     }
 
     /// The program.
@@ -93,12 +98,14 @@ impl Sim {
         &self.compiled
     }
 
-    /// The machine. It stands for the program's configuration after its journal.
+    /// The machine. It runs the program's image, and stands for the file's configuration after its journal.
     pub fn machine(&self) -> &Machine
         ensures value { result.now ≡ self.now.machine }
+        ensures image { result.now.image ≡ self.now.compiled.image }
         ensures stands { Stands self.now }
         ensures completes { self.now.machine.state.lanes ≡ 1 → Completes self.now }
     {
+        let _turns = self.machine.turns();
         &self.machine
     }
 }
