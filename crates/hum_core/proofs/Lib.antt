@@ -5,6 +5,7 @@ pub mod Simulates
 pub mod Wholly
 pub mod Looked
 pub mod Names
+pub mod NewestItems
 pub mod Patterns
 pub mod Agreed
 pub mod Splits
@@ -29,5 +30,9 @@ pub mod ScopedFiles
 pub mod Likenesses
 pub mod Through
 pub mod Programs
+pub mod Sums
+pub mod SizedNodes
+pub mod SizedParts
+pub mod SizedUnits
 mod Examples
 mod BoundExamples

@@ -5,7 +5,7 @@ use Rattle.cap_words.specs.Words.{W, Rom}
 use Rattle.cap_words.specs.Seen.{Seen}
 use Rattle.uasm_read.specs.Links.{Linked}
 use Rattle.hum_core.specs.declared.tested.TestUnit.{TestUnit}
-use Rattle.hum_emit.specs.Compiled.{compiled, compiled_module, CompiledImagesHold, ProgramsLink, LabelsArePlaces}
+use Rattle.hum_emit.specs.Compiled.{compiled, compiled_module, CompiledImagesHold, LabelsArePlaces}
 use Rattle.hum_emit.specs.declared.instruction.Instruction.{Instruction}
 use Rattle.hum_emit.specs.Holds.{place_word, Holds}
 use Rattle.hum_emit.specs.ProgramLayout.{places_of}
@@ -15,7 +15,7 @@ use Rattle.hum_emit.proofs.Expressions.{index_is}
 use Rattle.hum_emit.proofs.FairStart.{emission_made, emission_long, emission_entries}
 use Rattle.hum_emit.proofs.Images.{linked_holds}
 use Rattle.hum_emit.proofs.PlainImages.{image_plain}
-use Rattle.hum_emit.proofs.Linking.{few_link, links}
+use Rattle.hum_emit.proofs.Linking.{few_link}
 use Rattle.hum_emit.proofs.Modules.{number_of_boot, number_of_apply, number_of_unit}
 
 module _ (units : List TestUnit) (boot : W) (cells : List Quad) (fit : ShapesFit units (shapes_of units)) (linked : Linked (compiled_module units ∷ []) boot cells) where
@@ -37,9 +37,6 @@ compiled_images_hold units boot cells fit linked = record {
   shape = index_is (shapes_of units) 0 _ [] fit.first.stands;
   operations = image_plain units (shapes_of units) fit boot cells linked;
 }
-
-pub programs_link : ProgramsLink
-programs_link units few = links (compiled units).0 (compiled units).1 few
 
 pub labels_are_places : LabelsArePlaces
 labels_are_places units fits few =

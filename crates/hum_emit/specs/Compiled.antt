@@ -1,10 +1,10 @@
 -- What a program's module is: the image that it links to holds the program.
-use Rattle.std.specs.Prelude.{◌≡◌, ℕ, ◌+◌, ◌<◌, ◌≤◌, List, [], ◌∷◌, length, Option, Some, None, option_map}
+use Rattle.std.specs.Prelude.{◌≡◌, ℕ, ◌+◌, ◌<◌, ◌≤◌, List, [], ◌∷◌, length, Option, Some, option_map}
 use Rattle.cap_words.specs.declared.word.Quad.{Quad}
 use Rattle.cap_words.specs.Words.{W, Rom}
 use Rattle.uasm_read.specs.Modules.{ModuleParts}
 use Rattle.uasm_read.specs.Texts.{Name}
-use Rattle.uasm_read.specs.Links.{Linked, link_fault, item_limit, first_number, label_number}
+use Rattle.uasm_read.specs.Links.{Linked, item_limit, first_number, label_number}
 use Rattle.hum_core.specs.declared.tested.TestUnit.{TestUnit}
 use Rattle.hum_code.specs.Layout.{Layout}
 use Rattle.hum_code.specs.Program.{HoldsProgram}
@@ -31,11 +31,6 @@ abbrev pub CompiledImagesHold : Type 0
 CompiledImagesHold =
     (units : List TestUnit) (boot : W) (cells : List Quad) → ShapesFit units (shapes_of units) → Linked (compiled_module units ∷ []) boot cells
     → HoldsProgram boot cells (layout_of units)
-
--- the module of a program links, but where it has more instructions and data than an image has room for
-abbrev pub ProgramsLink : Type 0
-ProgramsLink =
-    (units : List TestUnit) → length (compiled units).0.code + length (compiled units).0.cells ≤ item_limit → link_fault (compiled_module units ∷ []) ≡ None
 
 -- the word that a label of a module stands for in the image that it links to alone
 abbrev pub label_word : ModuleParts → Name → Option W

@@ -1,7 +1,8 @@
 //! What is so of emitted code.
 
-ghost use Rattle.hum_emit.specs.Compiled.{CompiledImagesHold, ProgramsLink, LabelsArePlaces};
+ghost use Rattle.hum_emit.specs.Compiled.{CompiledImagesHold, LabelsArePlaces};
 ghost use Rattle.hum_emit.specs.Laws.{LinkedHolds, EmittedCodeStands, ShapesOfProgramsFit, EmissionsAreMade};
+ghost use Rattle.hum_emit.specs.Size.{EmissionsAreSmall, ModulesAreSmall, ProgramsLink};
 
 /// A store with the cells that the module of an emission links to holds each instruction and each datum at its place, and the boot word
 /// is the place of the instruction that was made last.
@@ -35,7 +36,18 @@ pub fn compiled_images_hold_their_programs()
     ensures { CompiledImagesHold }
 {}
 
-/// The module of a program links, but where it has more instructions and data than an image has room for.
+/// What is emitted of a program has at most 16 items for each part of the program, and 4,080 more.
+pub fn emissions_are_small()
+    ensures { EmissionsAreSmall }
+{}
+
+/// The module of a file that tokens spell has at most 64 items for each unit of their weight, and 4,096 more.
+pub fn modules_are_small()
+    ensures { ModulesAreSmall }
+{}
+
+/// The module of each file whose tokens are not heavier than those of a text may be links, and there are fewer than 2^32 instructions and
+/// fewer than 2^32 data.
 pub fn programs_link()
     ensures { ProgramsLink }
 {}

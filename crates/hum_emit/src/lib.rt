@@ -25,8 +25,9 @@ mod whole;
 
 pub use instruction::{Datum, Field, Instruction};
 pub use laws::{
-    compiled_images_hold_their_programs, emissions_are_made, emitted_code_stands,
-    labels_are_places, linked_holds, programs_link, shapes_of_programs_fit,
+    compiled_images_hold_their_programs, emissions_are_made, emissions_are_small,
+    emitted_code_stands, labels_are_places, linked_holds, modules_are_small, programs_link,
+    shapes_of_programs_fit,
 };
 pub use module::module_of;
 pub use std::alloc::AllocError as NoMemory;

@@ -5,7 +5,7 @@ ghost use Rattle.hum_emit.specs.Shapes.{shapes_of, ShapesFit};
 
 use hum_core::Program;
 use hum_emit::emit;
-use hum_front::{Reading, read_text};
+use hum_front::read_text;
 use hum_match::lower;
 use hum_outside::MemSink;
 use std::alloc::Global;
@@ -20,14 +20,10 @@ use vm_turn::{Outcome, Turn};
 pub fn program(alloc: Global, text: &[u8]) -> Result<Program, Fail>
     ensures { IfOk result (λ p. ShapesFit p.units (shapes_of p.units)) }
 {
-    let Ok(Reading { tree, resolved }) = read_text(alloc, text) else {
+    let Ok(reading) = read_text(alloc, text) else {
         return Err(Fail::new("the text is refused"));
     };
-    let _statements = tree.statements.len();
-    match lower(alloc, &resolved) {
-        Ok(program) => Ok(program),
-        Err(e) => Err(e.into()),
-    }
+    Ok(lower(alloc, &reading.resolved)?)
 }
 
 /// The machine that a text's image boots to.
@@ -41,8 +37,8 @@ pub fn machine(rt: &impl Abort, alloc: Global, text: &[u8]) -> Result<Machine, F
     Ok(Machine::boot(alloc, &image, grant, Lanes { count: 1, seed: 7 })?)
 }
 
-// How the events of a program end, with 0 for one that commits, and what it writes.
-fn runs(
+/// How the events of a program end, with 0 for one that commits, and what it writes.
+pub fn runs(
     rt: &impl Abort,
     alloc: Global,
     text: &[u8],

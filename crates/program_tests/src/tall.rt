@@ -1,6 +1,6 @@
 //! Programs that are as tall and as wide as they may be: each part of the compiler has stack for them, and so has the end of each tree.
 
-use crate::programs::program;
+use crate::programs::{program, runs};
 use hum_emit::emit;
 use std::alloc::{AllocError, Global};
 use std::test::Fail;
@@ -47,4 +47,22 @@ fn a_tall_program(rt: HostRuntime) -> Result<(), Fail> {
     assert_eq!(rt; units, 2);
     assert!(rt; cells > 4 * 7960);
     Ok(())
+}
+
+// As many bindings as there may be, of which the first and the last are sent.
+#[test]
+fn a_wide_program(rt: HostRuntime) -> Result<(), Fail> {
+    let alloc = rt.alloc();
+    let digits = b"0123456789";
+    let mut text = Vec::new(alloc);
+    for n in 0..3986 {
+        text.extend_from_slice(b"LET n")?;
+        text.push(digits[n / 1000 % 10])?;
+        text.push(digits[n / 100 % 10])?;
+        text.push(digits[n / 10 % 10])?;
+        text.push(digits[n % 10])?;
+        text.extend_from_slice(b" = 5 ")?;
+    }
+    text.extend_from_slice(b"SEND n0000 TO println SEND n3985 TO println")?;
+    runs(&rt, alloc, &text, &[0, 0, 0], b"5\n5\n")
 }
