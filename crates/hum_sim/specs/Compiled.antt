@@ -16,7 +16,8 @@ pub record Compiled : Type 0 where
   pub units : List TestUnit
   pub image : RomImage
 
--- The tree is that of a text that is accepted, the units are those of its program, and the image is what the module of these links to.
+-- The tree is that of a text that is accepted, the units are those of its program, and the image is what the module
+-- of these links to.
 pub record IsCompiled (tree : Tree) (units : List TestUnit) (image : RomImage) : Type 0 where
   pub text : Bytes
   pub accepted : Accepted text tree

@@ -13,7 +13,8 @@ use Rattle.vm_turn.specs.Spending.{Spending}
 use Rattle.hum_sim.specs.Standing.{StateStands}
 
 -- The image holds the file's program, and the state stands for a configuration of the program that is alike to the file's.
-pub record StandsForFile (file : List Stmt) (image : RomImage) (layout : Layout) (spent : Spending) (s : State) (c : Configuration (Named written)) : Type 0 where
+pub record StandsForFile (file : List Stmt) (image : RomImage) (layout : Layout) (spent : Spending) (s : State)
+    (c : Configuration (Named written)) : Type 0 where
   pub holds : HoldsFile file image layout
   pub of_program : Configuration Tests
   pub alike : (FileAs file).Configurations c of_program

@@ -24,8 +24,8 @@ use Rattle.vm_turn.specs.Spending.{spent_in_run}
 use Rattle.hum_sim.specs.Within.{allowed}
 use Rattle.hum_sim.specs.File.{StandsForFile}
 
--- Two runs of a file with one lane, over any images that hold its program and under any grants, write the same once as many events have
--- finished, where no root ran out: the output after n events is a function of the text and n.
+-- Two runs of a file with one lane, over any images that hold its program and under any grants, write the same once
+-- as many events have finished, where no root ran out: the output after n events is a function of the text and n.
 abbrev pub OutputIsTheTexts : Type 0
 OutputIsTheTexts =
     (file : List Stmt) (image image' : RomImage) (layout layout' : Layout) → HoldsFile file image layout → HoldsFile file image' layout'
@@ -36,10 +36,12 @@ OutputIsTheTexts =
 -- ---- deliveries that come to rest
 
 module _ {L : Parts} (language : Language L) where
-  -- the deliveries of messages k, k + 1 and so on, each decided, with a bound of each, lead from the first configuration to the second
+  -- the deliveries of messages k, k + 1 and so on, each decided, with a bound of each, lead from the first
+  -- configuration to the second
   abbrev pub Delivers : ℕ → Configuration L → List Entry → List Cost → Configuration L → Type 0
   Delivers k c [] [] d = c ≡ d
-  Delivers k c (e ∷ more) (cost ∷ costs) d = (e.message ≡ k) × (HasRunOut e.ending → ⊥) × (between : Configuration L) × (enters : Enters language c e between)
+  Delivers k c (e ∷ more) (cost ∷ costs) d =
+      (e.message ≡ k) × (HasRunOut e.ending → ⊥) × (between : Configuration L) × (enters : Enters language c e between)
       × HasBound language (c, enters.message) cost × Delivers (suc k) between more costs d
   Delivers k c _ _ d = ⊥
 
@@ -51,8 +53,10 @@ module _ {L : Parts} (language : Language L) where
     pub rests : d.pending ≡ []
     pub fits : (kind : Quota) → Fit (allowed kind) costs (of_kind kind grant)
 
--- then the root never runs out, and at rest the run has made just these deliveries and stands for the configuration that they lead to
-pub record CompletesThem (file : List Stmt) (image : RomImage) (layout : Layout) (grant : Amounts) (picks : List ℕ) (d : Configuration (Named written)) (entries : List Entry) : Type 0 where
+-- then the root never runs out, and at rest the run has made just these deliveries and stands for the configuration
+-- that they lead to
+pub record CompletesThem (file : List Stmt) (image : RomImage) (layout : Layout) (grant : Amounts) (picks : List ℕ)
+    (d : Configuration (Named written)) (entries : List Entry) : Type 0 where
   pub holds_out : (run image grant 1 picks).out_of ≡ None
   pub journal : (pick : ℕ) → (turn (run image grant 1 picks) pick).1 ≡ Rest → Each EntryAs (run image grant 1 picks).journal entries
   pub stands : (pick : ℕ) → (turn (run image grant 1 picks) pick).1 ≡ Rest
@@ -62,4 +66,5 @@ pub record CompletesThem (file : List Stmt) (image : RomImage) (layout : Layout)
 abbrev pub RunsComeToRest : Type 0
 RunsComeToRest =
     (file : List Stmt) (image : RomImage) (layout : Layout) → HoldsFile file image layout → (grant : Amounts) (picks : List ℕ)
-    → (d : Configuration (Named written)) (r : ComesToRest humus grant (after.opening file) d) → CompletesThem file image layout grant picks d r.entries
+    → (d : Configuration (Named written)) (r : ComesToRest humus grant (after.opening file) d)
+    → CompletesThem file image layout grant picks d r.entries

@@ -8,8 +8,8 @@ use Rattle.hum_core.specs.Programs.{program}
 use Rattle.hum_code.specs.Layout.{Layout}
 use Rattle.hum_code.specs.Program.{HoldsProgram}
 
--- The file is a tree that has a text, and no name of it is refused; the layout's units are those of its program; and the image has their code
--- where the layout says, and begins with it.
+-- The file is a tree that has a text, and no name of it is refused; the layout's units are those of its program; and
+-- the image has their code where the layout says, and begins with it.
 pub record HoldsFile (file : List Stmt) (image : RomImage) (layout : Layout) : Type 0 where
   pub formed : tree.are_formed file ≡ true
   pub scoped : Scoped file

@@ -30,9 +30,10 @@ use Rattle.hum_sim.specs.File.{StandsForFile}
 
 -- ---- what is so of each state of a run
 
--- The machine's journal is one of deliveries of the file. They lead from the opening configuration to the one that the state stands for, in a
--- legal order. Each event committed or failed as its delivery does, unless the root ran out. Each spent no more than its delivery's bound,
--- and what the root spent is what the events that ended and those in flight did.
+-- The machine's journal is one of deliveries of the file. They lead from the opening configuration to the one that
+-- the state stands for, in a legal order. Each event committed or failed as its delivery does, unless the root ran
+-- out. Each spent no more than its delivery's bound, and what the root spent is what the events that ended and those
+-- in flight did.
 pub record FollowsItsJournal (file : List Stmt) (image : RomImage) (layout : Layout) (spent : Spending) (s : State) : Type 0 where
   pub journal : List after.Entry
   pub configuration : Configuration (Named written)
@@ -44,8 +45,8 @@ pub record FollowsItsJournal (file : List Stmt) (image : RomImage) (layout : Lay
   pub within : AreWithin humus spent (after.opening file) journal configuration follows
   pub paid : (kind : Quota) → spent_by_root kind s ≡ spent_by_ended kind spent s.journal + spent_in_flight kind spent s.flight
 
--- What follows from that: the output is the configuration's; each failure has one of the codes 1 to 8; messages to one target finish in the order
--- of their numbers, and with one lane the journal's numbers are 0, 1, 2 and so on.
+-- What follows from that: the output is the configuration's; each failure has one of the codes 1 to 8; messages to
+-- one target finish in the order of their numbers, and with one lane the journal's numbers are 0, 1, 2 and so on.
 pub record WhatFollows (file : List Stmt) (image : RomImage) (layout : Layout) (spent : Spending) (s : State)
     (f : FollowsItsJournal file image layout spent s) : Type 0 where
   pub output : s.output ≡ f.configuration.output
@@ -55,15 +56,17 @@ pub record WhatFollows (file : List Stmt) (image : RomImage) (layout : Layout) (
 
 -- ---- why a run stops
 
--- In the turn with this pick the root can't pay for the next instruction of the event that is picked, since it holds too little of that kind.
+-- In the turn with this pick the root can't pay for the next instruction of the event that is picked, since it holds
+-- too little of that kind.
 pub record RootIsShort (kind : Quota) (s : State) (pick : ℕ) : Type 0 where
   pub event : Picked s pick
   pub due : short (account s.sheet root) (next_row event).charge ≡ Some kind
   pub answer : (turn s pick).1 ≡ Spent root kind
 
 module _ (file : List Stmt) (image : RomImage) (layout : Layout) (grant : Amounts) (lanes : ℕ) where
-  -- Why the root ran out: before one of the run's turns it had not, and the state followed its journal; in that turn it was short, and the event
-  -- that it could not pay for has the last entry; and no choice of numbers of steps made the bounds of the events in flight fit.
+  -- Why the root ran out: before one of the run's turns it had not, and the state followed its journal; in that turn
+  -- it was short, and the event that it could not pay for has the last entry; and no choice of numbers of steps made
+  -- the bounds of the events in flight fit.
   pub record RanOutBecause (picks : List ℕ) (kind : Quota) : Type 0 where
     pub earlier : List ℕ
     pub pick : ℕ
@@ -72,11 +75,12 @@ module _ (file : List Stmt) (image : RomImage) (layout : Layout) (grant : Amount
     pub running : (run image grant lanes earlier).out_of ≡ None
     pub before : FollowsItsJournal file image layout (spent_in_run image grant lanes earlier) (run image grant lanes earlier)
     pub is_short : RootIsShort kind (run image grant lanes earlier) pick
-    pub last : (run image grant lanes picks).journal ≡ (run image grant lanes earlier).journal ++ entry is_short.event.lane.number (RanOut kind) ∷ []
+    pub last : (run image grant lanes picks).journal
+        ≡ (run image grant lanes earlier).journal ++ entry is_short.event.lane.number (RanOut kind) ∷ []
     pub none_fits : NoChoiceFits humus before.configuration (spent_in_run image grant lanes earlier) (run image grant lanes earlier) kind
 
-  -- After these picks the bounds of all finished deliveries and of those in flight fit the grant in every kind; each is by a number of steps
-  -- that decides its delivery.
+  -- After these picks the bounds of all finished deliveries and of those in flight fit the grant in every kind; each
+  -- is by a number of steps that decides its delivery.
   pub record BoundsFit (picks : List ℕ) : Type 0 where
     pub at : FollowsItsJournal file image layout (spent_in_run image grant lanes picks) (run image grant lanes picks)
     pub finished : List Cost
@@ -93,13 +97,14 @@ module _ (file : List Stmt) (image : RomImage) (layout : Layout) (grant : Amount
 
   -- ---- whole runs
 
-  -- After these picks the state follows its journal. It is at rest where no message is pending, and, with a lane at least, there alone. The
-  -- root ran out only for its cause, and never where the bounds fit at each moment.
+  -- After these picks the state follows its journal. It is at rest where no message is pending, and, with a lane at
+  -- least, there alone. The root ran out only for its cause, and never where the bounds fit at each moment.
   pub record RunStands (picks : List ℕ) : Type 0 where
     pub lanes_are : (run image grant lanes picks).lanes ≡ lanes
     pub follows : FollowsItsJournal file image layout (spent_in_run image grant lanes picks) (run image grant lanes picks)
     pub what_follows : WhatFollows file image layout (spent_in_run image grant lanes picks) (run image grant lanes picks) follows
-    pub comes_to_rest : (pick : ℕ) → (run image grant lanes picks).out_of ≡ None → follows.configuration.pending ≡ [] → (turn (run image grant lanes picks) pick).1 ≡ Rest
+    pub comes_to_rest : (pick : ℕ) → (run image grant lanes picks).out_of ≡ None → follows.configuration.pending ≡ []
+        → (turn (run image grant lanes picks) pick).1 ≡ Rest
     pub nothing_pending : (pick : ℕ) → 1 ≤ lanes → (turn (run image grant lanes picks) pick).1 ≡ Rest → follows.configuration.pending ≡ []
     pub why_out : (kind : Quota) → (run image grant lanes picks).out_of ≡ Some kind → RanOutBecause picks kind
     pub holds_out : BoundsAlwaysFit picks → (run image grant lanes picks).out_of ≡ None

@@ -47,18 +47,21 @@ pub record Stands (s : Sim) : Type 0 where
   pub is_there : s.machine.state ≡ unwritten (state_of s)
   pub run : RunStands (file_of s) s.machine.image (layout_in s) s.machine.grant s.machine.state.lanes (picks s.machine.seed s.machine.turns)
 
--- With one lane: where the deliveries in the order of their numbers come to rest, each decided, and their bounds fit the grant, the root never
--- runs out, and at rest the machine has made them and stands for the configuration that they lead to.
+-- With one lane: where the deliveries in the order of their numbers come to rest, each decided, and their bounds fit
+-- the grant, the root never runs out, and at rest the machine has made them and stands for the configuration that
+-- they lead to.
 abbrev pub Completes : Sim → Type 0
 Completes s =
     (d : Configuration (Named written)) (r : ComesToRest humus s.machine.grant (after.opening (file_of s)) d)
     → CompletesThem (file_of s) s.machine.image (layout_in s) s.machine.grant (picks s.machine.seed s.machine.turns) d r.entries
 
--- The second state stands for a configuration that the first one stands for, or for the one that the entry makes of it that was added between.
+-- The second state stands for a configuration that the first one stands for, or for the one that the entry makes of
+-- it that was added between.
 pub record Steps (s t : Sim) (c : Configuration (Named written)) : Type 0 where
   pub configuration : Configuration (Named written)
   pub stands : StandsForFile (file_of s) t.machine.image (layout_in s) (spending_of t) (state_of t) configuration
-  pub step : (((state_of t).journal ≡ (state_of s).journal) × (configuration ≡ c)) ⊎ AddsAnEntry (spending_of t) (state_of s) (state_of t) c configuration
+  pub step : (((state_of t).journal ≡ (state_of s).journal) × (configuration ≡ c))
+      ⊎ AddsAnEntry (spending_of t) (state_of s) (state_of t) c configuration
 
 -- so it is with each configuration that the first state stands for
 abbrev pub KeepsStanding : Sim → Sim → Type 0

@@ -35,8 +35,8 @@ first_to t (m ∷ ms) = if nat_eq m.target t then Some m else first_to t ms
 module _ (layout : Layout) where
   -- ---- actors
 
-  -- An actor's code and state stand for a behaviour that is a value: it has the code that applies a behaviour, and its state stands for the
-  -- value; or it is actor 0, whose code runs the file, with the devices in its state.
+  -- An actor's code and state stand for a behaviour that is a value: it has the code that applies a behaviour, and
+  -- its state stands for the value; or it is actor 0, whose code runs the file, with the devices in its state.
   abbrev pub AnswersStand : Seen → List W → (actor code state : W) → Value Tests → Type 0
   AnswersStand s roll actor code state v =
       ((code ≡ layout.apply) × Stands layout s roll state v)
@@ -56,8 +56,8 @@ module _ (layout : Layout) where
     pub idle : NoEventOf actor flight → mark ≡ undef
     pub behaves : BehaviourStands s roll actor code state b
 
-  -- The roll is as long as the list of behaviours and names no actor twice; its actors have these behaviours. It begins with the first actor
-  -- and the two devices.
+  -- The roll is as long as the list of behaviours and names no actor twice; its actors have these behaviours. It
+  -- begins with the first actor and the two devices.
   pub record BehavioursStand (s : State) (c : Configuration Tests) : Type 0 where
     pub actors : Each (ActorStands s.store s.roll s.flight) s.roll c.behaviours
     pub once : (w : W) → times w s.roll ≤ 1
@@ -65,8 +65,8 @@ module _ (layout : Layout) where
 
   -- ---- messages
 
-  -- A message that is not finished is this pending one: it has its number and target, and its content stands for the value. It is under the
-  -- root.
+  -- A message that is not finished is this pending one: it has its number and target, and its content stands for the
+  -- value. It is under the root.
   pub record MessageStands (s : Seen) (roll : List W) (m : Message) (p : meaning.Message Tests) : Type 0 where
     pub number : m.number ≡ p.number
     pub target : W
@@ -77,17 +77,17 @@ module _ (layout : Layout) where
 
   -- ---- events in flight
 
-  -- The store at an event's dispatch: the image's cells were there and the event's actor; the code and state that the actor has stood for
-  -- its behaviour, and the message for its value.
+  -- The store at an event's dispatch: the image's cells were there and the event's actor; the code and state that the
+  -- actor has stood for its behaviour, and the message for its value.
   pub record DispatchStands (base : Seen) (rom : List Quad) (roll : List W) (l : Lane) (behaviour value : Value Tests) : Type 0 where
     pub rom_is : base.rom ≡ rom
     pub shown : look_up base l.own.actor ≡ Some AnActor
     pub answers : AnswersStand base roll l.own.actor l.own.code l.own.state behaviour
     pub message : Stands layout base roll l.own.message value
 
-  -- An event in flight is of the first message to its actor that is pending, and its actor is no device. The machine's rows reach the event
-  -- from its dispatch, at what it has spent, whatever others did between. It is under the root; and so is each message that it has
-  -- sent, since its rows send under its own sponsor.
+  -- An event in flight is of the first message to its actor that is pending, and its actor is no device. The
+  -- machine's rows reach the event from its dispatch, at what it has spent, whatever others did between. It is under
+  -- the root; and so is each message that it has sent, since its rows send under its own sponsor.
   pub record LaneStands (s : Seen) (roll : List W) (c : Configuration Tests) (spent : Spending) (l : Lane) : Type 0 where
     pub message : meaning.Message Tests
     pub pending : message_of l.number c.pending ≡ Some message
@@ -104,9 +104,9 @@ module _ (layout : Layout) where
   abbrev pub IsFirst : Configuration Tests → Lane → Type 0
   IsFirst c l = (p : meaning.Message Tests) × (slice_get c.pending 0 ≡ Some p) × (p.number ≡ l.number)
 
-  -- The events in flight stand for deliveries, no two are of one actor, and there are no more than there are lanes. Each one's actor is busy
-  -- with it, with the code and state that it had at the dispatch; what an event created is not committed, and is created once (`sound`).
-  -- With one lane, an event in flight is of the first message.
+  -- The events in flight stand for deliveries, no two are of one actor, and there are no more than there are lanes.
+  -- Each one's actor is busy with it, with the code and state that it had at the dispatch; what an event created is
+  -- not committed, and is created once (`sound`). With one lane, an event in flight is of the first message.
   pub record FlightStands (spent : Spending) (s : State) (c : Configuration Tests) : Type 0 where
     pub events : Every (LaneStands s.store s.roll c spent) s.flight
     pub targets : (i j : ℕ) (k l : Lane) → slice_get s.flight i ≡ Some k → slice_get s.flight j ≡ Some l → k.own.actor ≡ l.own.actor → i ≡ j
@@ -116,9 +116,9 @@ module _ (layout : Layout) where
 
   -- ---- the whole
 
-  -- A state stands for a configuration: the image's cells are there, and code is in the image alone; the roll's actors have the behaviours;
-  -- the messages that are not finished are the pending ones in order, and the next numbers agree; the outputs are equal; the events in
-  -- flight stand; and the root is the only sponsor.
+  -- A state stands for a configuration: the image's cells are there, and code is in the image alone; the roll's
+  -- actors have the behaviours; the messages that are not finished are the pending ones in order, and the next
+  -- numbers agree; the outputs are equal; the events in flight stand; and the root is the only sponsor.
   pub record StateStands (rom : List Quad) (spent : Spending) (s : State) (c : Configuration Tests) : Type 0 where
     pub rom_is : s.store.rom ≡ rom
     pub code_out : NoCodeInRam s.store

@@ -46,8 +46,8 @@ module _ {L : Parts} (language : Language L) where
   FinishedBounds c (e ∷ more) d f (cost ∷ costs) = HasBound language (c, f.1.message) cost × FinishedBounds f.0 more d f.2 costs
   FinishedBounds c _ d f _ = ⊥
 
-  -- No choice of one number of steps for each event in flight decides all their deliveries so that the bounds fit what the root holds of that
-  -- kind and what these events have spent of it since their dispatch.
+  -- No choice of one number of steps for each event in flight decides all their deliveries so that the bounds fit
+  -- what the root holds of that kind and what these events have spent of it since their dispatch.
   abbrev pub NoChoiceFits : Configuration L → Spending → State → Quota → Type 0
   NoChoiceFits c spent s kind =
       (messages : List (Message L)) (costs : List Cost) → MessagesOf c s.flight messages
