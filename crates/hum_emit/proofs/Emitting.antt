@@ -1,5 +1,5 @@
 -- The code of an emitted program stands in each store that holds what was emitted.
-use Rattle.std.proofs.Common.{◌≡◌, refl, ap, sym, subst, ◌∙◌, ℕ, zero, suc, ◌+◌, ◌-◌, ◌<◌, pos, Bool, true, false, List, [], ◌∷◌, ◌++◌, map, length, Option, Some, None, option_map, nat_eq, arith}
+use Rattle.std.proofs.Common.{◌≡◌, refl, ap, sym, subst, ◌∙◌, ℕ, zero, suc, ◌+◌, ◌-◌, ◌<◌, lit<, pos, Bool, true, false, List, [], ◌∷◌, ◌++◌, map, length, Option, Some, None, option_map, nat_eq, arith}
 use Rattle.std.specs.Prelude.{slice_get, slice_index}
 use Rattle.std.specs.Str.{bytes_eq}
 use Rattle.std.proofs.lemmas.Bool.Decides.{nat_tests}
@@ -22,10 +22,10 @@ use Rattle.hum_code.specs.Runtime.{BootAt, RuntimeAt, outermost_words}
 use Rattle.hum_code.specs.Emission.{CodeStands}
 use Rattle.hum_code.proofs.Makings.{length_end}
 use Rattle.hum_code.proofs.World.{same}
-use Rattle.hum_emit.specs.declared.instruction.Field.TheVariants.{Constant as ConstantField, Place, Data}
+use Rattle.hum_emit.specs.declared.instruction.Field.TheVariants.{Number, Constant as ConstantField, Place, Data}
 use Rattle.hum_emit.specs.declared.instruction.Instruction.{Instruction}
 use Rattle.hum_emit.specs.declared.instruction.Datum.{Datum}
-use Rattle.hum_emit.specs.Emitted.{Emitted, ◌▷◌, push, put, pair, state, list_field}
+use Rattle.hum_emit.specs.Emitted.{Emitted, function_type, ◌▷◌, push, put, pair, state, list_field}
 use Rattle.hum_emit.specs.Holds.{Holds, word_of, data_word}
 use Rattle.hum_emit.specs.Runtime.{routine_places, end_place}
 use Rattle.hum_emit.specs.Templates.{units_code, push_data, boot_code}
@@ -34,7 +34,8 @@ use Rattle.hum_emit.specs.Shapes.{ShapesFit}
 use Rattle.hum_emit.specs.ProgramLayout.{places_of, program_layout}
 use Rattle.hum_emit.proofs.Makes.{Kept, Begins, begins_same, begins_later, Image, layout, Makes, makes_one, makes_both, pushes, pairs_up}
 use Rattle.hum_emit.proofs.DataCells.{datum_shown, list_stands}
-use Rattle.hum_emit.proofs.Fixed.{fails, calls, executes, applies, compares, primitives, ends}
+use Rattle.hum_emit.proofs.FixedPlaces.{routines_many, routine_cell, routine_at}
+use Rattle.hum_emit.proofs.Fixed.{kept_start, fails, calls, executes, applies, compares, primitives, ends}
 use Rattle.hum_emit.proofs.Expressions.{below, at, index_is}
 use Rattle.hum_emit.proofs.MadeUnits.{UnitAt, units_grow, units_stand}
 use Rattle.hum_emit.proofs.FairStart.{whole}
@@ -89,23 +90,26 @@ module _ (c : Image) (kept : Kept c.final) where
           let both : Some h.0 ≡ Some k.0 = sym h.1 ∙ (ap c.final.symbols names ∙ k.1) in cc
 
   module _ (more : List Datum) (begins : c.final.cells ≡ routine_cells 0 routine_places ++ more) where
-    cell : (j : ℕ) (d : Datum) → slice_get (routine_cells 0 routine_places) j ≡ Some d → slice_get c.final.cells j ≡ Some d
-    cell j d h = ap (λ xs. slice_get xs j) begins ∙ (get-left (routine_cells 0 routine_places) more j (slice_get_within (routine_cells 0 routine_places) j d h) ∙ h)
+    cell : (j : ℕ) → j < 12 → slice_get c.final.cells j ≡ Some (routine_cell j (slice_index routine_places j))
+    cell j few =
+        let is = routine_at 0 routine_places j (let many = routines_many in omega (arith, many, few))
+        ∙ ap (λ n. Some (routine_cell n (slice_index routine_places j))) (let same : 0 + j ≡ j = omega arith in same) in
+        ap (λ xs. slice_get xs j) begins ∙ (get-left (routine_cells 0 routine_places) more j (slice_get_within (routine_cells 0 routine_places) j _ is) ∙ is)
 
     primitives_stand : (b : BuiltIn)
         → Shows c.setting.base ((layout c).primitive b) (three_quad func_t ((layout c).routine b) (Fix (pos (number_of_primitive b))))
-    primitives_stand Add = datum_shown c 0 _ (cell 0 _ refl)
-    primitives_stand Sub = datum_shown c 1 _ (cell 1 _ refl)
-    primitives_stand Mul = datum_shown c 2 _ (cell 2 _ refl)
-    primitives_stand Compare = datum_shown c 3 _ (cell 3 _ refl)
-    primitives_stand Less = datum_shown c 4 _ (cell 4 _ refl)
-    primitives_stand LessEqual = datum_shown c 5 _ (cell 5 _ refl)
-    primitives_stand Greater = datum_shown c 6 _ (cell 6 _ refl)
-    primitives_stand GreaterEqual = datum_shown c 7 _ (cell 7 _ refl)
-    primitives_stand Equal = datum_shown c 8 _ (cell 8 _ refl)
-    primitives_stand And = datum_shown c 9 _ (cell 9 _ refl)
-    primitives_stand Or = datum_shown c 10 _ (cell 10 _ refl)
-    primitives_stand Not = datum_shown c 11 _ (cell 11 _ refl)
+    primitives_stand Add = datum_shown c 0 _ (cell 0 (lit< tt))
+    primitives_stand Sub = datum_shown c 1 _ (cell 1 (lit< tt))
+    primitives_stand Mul = datum_shown c 2 _ (cell 2 (lit< tt))
+    primitives_stand Compare = datum_shown c 3 _ (cell 3 (lit< tt))
+    primitives_stand Less = datum_shown c 4 _ (cell 4 (lit< tt))
+    primitives_stand LessEqual = datum_shown c 5 _ (cell 5 (lit< tt))
+    primitives_stand Greater = datum_shown c 6 _ (cell 6 (lit< tt))
+    primitives_stand GreaterEqual = datum_shown c 7 _ (cell 7 (lit< tt))
+    primitives_stand Equal = datum_shown c 8 _ (cell 8 (lit< tt))
+    primitives_stand And = datum_shown c 9 _ (cell 9 (lit< tt))
+    primitives_stand Or = datum_shown c 10 _ (cell 10 (lit< tt))
+    primitives_stand Not = datum_shown c 11 _ (cell 11 (lit< tt))
 
     pub data_stand : ((name : List ℕ) (n : ℕ) → c.final.symbols name ≡ Some n → is_run name ≡ true) → DataStand (layout c) c.setting.base
     data_stand runs = record {
@@ -152,9 +156,6 @@ module _ (m : Setting) (units : List TestUnit) (shapes : List Shape) (fit : Shap
   abbrev image : Image
   image = record { setting = m; places = places_of (emission units shapes); units = units; shapes = shapes; final = final; holds = holds }
 
-  kept_start : Kept start
-  kept_start = record { cells = λ name n h. absurd (let no : None ≡ Some n = h in cc); names = λ a b n h k. absurd (let no : None ≡ Some n = h in cc) }
-
   grown_units : Begins start made.0
   grown_units = units_grow image units shapes (fit.each 0) start
 
@@ -184,17 +185,17 @@ module _ (m : Setting) (units : List TestUnit) (shapes : List Shape) (fit : Shap
         pushes = subst (λ i. Line m (op.Push (at image end_place) ∷ op.Push nil ∷ map op.Push (outermost_words m (layout image))
             ++ op.State (pos 1) ∷ op.State (pos 2) ∷ op.Pair (pos 14) ∷ []) (at image i) ((layout image).place 0)) (sym last)
             ((made_boot image).stands first made.0 (begins_same final));
-        commits = ends image begun.code begun.code_is;
+        commits = ends image begun;
       }
 
   runtime_stands : RuntimeAt m (layout image)
   runtime_stands = record {
-    fails = fails image begun.code begun.code_is;
-    calls = calls image begun.code begun.code_is;
-    executes = executes image begun.code begun.code_is;
-    applies = applies image begun.code begun.code_is;
-    compares = compares image begun.code begun.code_is;
-    primitives = primitives image begun.code begun.code_is;
+    fails = fails image begun;
+    calls = calls image begun;
+    executes = executes image begun;
+    applies = applies image begun;
+    compares = compares image begun;
+    primitives = primitives image begun;
     boots = boots;
   }
 

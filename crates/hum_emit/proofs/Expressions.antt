@@ -104,7 +104,7 @@ module _ (c : Image) where
   pub typeqs : (k : ℕ) → Makes c (typeq k) (λ a k'. At c.setting a (op.Typeq (Rom k)) k')
   typeqs k = makes_one _ refl
 
-  eqs : (f : Field) → Makes c (eq f) (λ a k. At c.setting a (op.Eq (word_of c.places f)) k)
+  pub eqs : (f : Field) → Makes c (eq f) (λ a k. At c.setting a (op.Eq (word_of c.places f)) k)
   eqs f = makes_one _ refl
 
   pub creates : Makes c create (λ a k. At c.setting a op.ActorCreate k)

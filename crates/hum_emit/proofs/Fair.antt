@@ -10,6 +10,7 @@ use Rattle.hum_emit.specs.declared.instruction.Field.TheVariants.{Number, Consta
 use Rattle.hum_emit.specs.declared.instruction.Instruction.{Instruction}
 use Rattle.hum_emit.specs.declared.instruction.Datum.{Datum}
 use Rattle.hum_emit.specs.Emitted.{Emitted, Piece, nothing, ◌▷◌, put, one, choose, calls, jump, with_field}
+use Rattle.hum_emit.specs.Runtime.{runtime}
 use Rattle.hum_emit.specs.Made.{FieldMade, NextMade, InstructionMade, DatumMade}
 use Rattle.hum_emit.proofs.PlainCode.{is_used}
 
@@ -31,7 +32,7 @@ module _ (units : ℕ) where
     pub cells : AllByRecursion (DatumMade (length s.code) units (length s.cells)) s.cells
     pub no_code : Every NoCode s.cells
     pub symbols : (name : List ℕ) (n : ℕ) → s.symbols name ≡ Some n → (n < length s.cells) × (is_run name ≡ true)
-    pub fixed : 232 < length s.code
+    pub fixed : length runtime ≤ length s.code
 
   -- ---- where there is more
 
@@ -103,7 +104,7 @@ module _ (units : ℕ) where
 
   -- an instruction of that operation with that word
   pub f_one : {from from_data : ℕ} (operation : ℕ) (field : Field) → operation < 27 → is_used operation field ≡ true
-      → ((size count : ℕ) → 232 < size → from ≤ size → from_data ≤ count → FieldMade size units count field)
+      → ((size count : ℕ) → length runtime ≤ size → from ≤ size → from_data ≤ count → FieldMade size units count field)
       → Fairly from from_data (one operation field)
   f_one operation field low used made = record {
     at = λ k s h c d below. f_put (record { operation = operation; field = field; next = Some k }) s h
@@ -119,13 +120,13 @@ module _ (units : ℕ) where
       → Fairly from from_data (one operation (Constant c))
   f_constant operation c low used is = f_one operation (Constant c) low used (λ size count fixed h d. is)
 
-  pub f_choose : {from from_data : ℕ} (miss : ℕ) → ((size : ℕ) → 232 < size → from ≤ size → miss < size) → Fairly from from_data (choose miss)
+  pub f_choose : {from from_data : ℕ} (miss : ℕ) → ((size : ℕ) → length runtime ≤ size → from ≤ size → miss < size) → Fairly from from_data (choose miss)
   f_choose miss there = record {
     at = λ k s h c d below. f_put (record { operation = 15; field = Place k; next = Some miss }) s h
         (record { made = record { operation = lit< tt; field = below; next = there (length s.code) h.fixed c }; used = refl });
   }
 
-  pub f_calls : {from from_data : ℕ} (routine : ℕ) → ((size : ℕ) → 232 < size → routine < size) → Fairly from from_data (calls routine)
+  pub f_calls : {from from_data : ℕ} (routine : ℕ) → ((size : ℕ) → length runtime ≤ size → routine < size) → Fairly from from_data (calls routine)
   f_calls routine there = record {
     at = λ k s h c d below. f_put (record { operation = 0; field = Place k; next = Some routine }) s h
         (record { made = record { operation = lit< tt; field = below; next = there (length s.code) h.fixed }; used = refl });
@@ -166,11 +167,11 @@ module _ (units : ℕ) where
   }
 
   -- it goes on at that instruction
-  pub f_to : {from from_data : ℕ} {q : Piece} (i : ℕ) → ((size : ℕ) → 232 < size → i < size) → Fairly from from_data q → Fairly from from_data (λ k. q i)
+  pub f_to : {from from_data : ℕ} {q : Piece} (i : ℕ) → ((size : ℕ) → length runtime ≤ size → i < size) → Fairly from from_data q → Fairly from from_data (λ k. q i)
   f_to i there g = record { at = λ k s fair c d below. g.at i s fair c d (there (length s.code) fair.fixed) }
 
   -- the fixed code is there
-  pub f_fixed : {from from_data : ℕ} {q : Piece} (i : ℕ) → i < 233 → Fairly (suc i) from_data q → Fairly from from_data q
+  pub f_fixed : {from from_data : ℕ} {q : Piece} (i : ℕ) → i < length runtime → Fairly (suc i) from_data q → Fairly from from_data q
   f_fixed i low g = record { at = λ k s fair c d below. let there = fair.fixed in g.at k s fair (omega (arith, low, there)) d below }
 
   pub f_from : {from from' from_data from_data' : ℕ} {q : Piece} → from ≤ from' → from_data ≤ from_data' → Fairly from from_data q → Fairly from' from_data' q

@@ -18,13 +18,14 @@ use Rattle.hum_code.specs.Code.{bound_behind, bound_after}
 use Rattle.hum_emit.specs.declared.instruction.Field.{Field}
 use Rattle.hum_emit.specs.declared.instruction.Field.TheVariants.{Constant, Place, Unit as UnitField}
 use Rattle.hum_emit.specs.Emitted.{Piece, ◌▷◌, push, dup, drop, pick, roll, pair, part, nth, typeq, eq, choose, calls, text, constant, function_type, block_type}
-use Rattle.hum_emit.specs.Runtime.{fail_place, call_place, same_place, apply_place}
+use Rattle.hum_emit.specs.Runtime.{runtime, fail_place, call_place, same_place, apply_place}
 use Rattle.hum_emit.specs.Templates.{OfExpr, OfTest, OfArm, OfBranch, function, block, unit_of, member_unit, variable, items, pairs, branches, tests, restore, later_arms, arms, of_expr, of_test, of_arm, of_branch, expr_code, test_code}
 use Rattle.hum_emit.specs.Made.{FieldMade}
 use Rattle.hum_emit.specs.Shapes.{FunctionIn, BlockIn, MemberIn, SlotFits, TestFits, EachTestFits, EachFits, ArmsFit, BranchesFit, NodeFits, Fits, fits_to}
 use Rattle.hum_emit.specs.Emitting.{arm_code, branch_code}
 use Rattle.hum_emit.proofs.Growths.{coded_expr, coded_test, coded_arm, coded_branch}
 use Rattle.hum_emit.proofs.Expressions.{after_is, after_all_is}
+use Rattle.hum_emit.proofs.FixedPlaces.{call_inside, apply_inside, same_inside, fails_inside}
 use Rattle.hum_emit.proofs.Fair.{Fairly, later, field_more, f_fixed, f_one, f_number, f_constant, f_choose, f_calls, f_nothing, f_both, f_miss, f_from, f_field}
 use Rattle.hum_emit.proofs.FairData.{text_fair, constant_fair}
 
@@ -47,7 +48,7 @@ module _ (units : List TestUnit) (shapes : List Shape) where
     pub ok_unit : (u : ℕ) → u < many → Fairly many from from_data (push (UnitField u))
     ok_unit u h = f_one many 0 (UnitField u) (lit< tt) refl (λ size count fixed c d. h)
 
-    pub ok_place : (i : ℕ) → i < 233 → Fairly many from from_data (push (Place i))
+    pub ok_place : (i : ℕ) → i < length runtime → Fairly many from from_data (push (Place i))
     ok_place i h = f_one many 0 (Place i) (lit< tt) refl (λ size count fixed c d. omega (arith, h, fixed))
 
     pub ok_constant : (c : ℕ) → c < 16 → Fairly many from from_data (push (Constant c))
@@ -80,10 +81,10 @@ module _ (units : List TestUnit) (shapes : List Shape) where
     pub ok_eq : (c : ℕ) → c < 16 → Fairly many from from_data (eq (Constant c))
     ok_eq c h = f_constant many 12 c (lit< tt) refl h
 
-    pub ok_fail : (code : ℕ) → code < 232 → Fairly many from from_data (choose (fail_place code))
+    pub ok_fail : (code : ℕ) → fail_place code < length runtime → Fairly many from from_data (choose (fail_place code))
     ok_fail code h = f_choose many (fail_place code) (λ size fixed c. omega (arith, h, fixed))
 
-    pub ok_calls : (routine : ℕ) → routine < 233 → Fairly many from from_data (calls routine)
+    pub ok_calls : (routine : ℕ) → routine < length runtime → Fairly many from from_data (calls routine)
     ok_calls routine h = f_calls many routine (λ size fixed. omega (arith, h, fixed))
 
     pub ok_function : (u : ℕ) → u < many → Fairly many from from_data (function u)
@@ -193,7 +194,7 @@ module _ (units : List TestUnit) (shapes : List Shape) where
   later_fair [] shape h = f_nothing many
   later_fair (a ∷ []) shape h =
       f_both many (ok_drop 2 refl) (f_both many (ok_part 2 refl)
-      (f_fixed many (fail_place 1) (lit< tt) (a.1 shape (fail_place 1) (λ m. (h m).0) (λ m. (h m).1))))
+      (f_fixed many (fail_place 1) (fails_inside 0) (a.1 shape (fail_place 1) (λ m. (h m).0) (λ m. (h m).1))))
   later_fair (a ∷ b ∷ more) shape h =
       f_miss many {q = later_arms (map arm_code (map (λ z. z.0) (b ∷ more))) shape} {r = λ miss. drop 2 ▷ restore ▷ arm_code a.0 shape miss}
       (later_fair (b ∷ more) shape (λ m. (h m).2)) (λ miss. f_both many (ok_drop 2 refl) (f_both many restore_ok (a.1 shape miss (λ m. (h m).0) (λ m. (h m).1))))
@@ -201,7 +202,7 @@ module _ (units : List TestUnit) (shapes : List Shape) where
   arms_fair : (as' : List AA) (shape : Shape) → ((m : ℕ) → ArmsFit units shapes (within m) shape (map (λ z. z.0) as'))
       → Fairly many 0 0 (arms (map arm_code (map (λ z. z.0) as')) shape)
   arms_fair [] shape h = f_nothing many
-  arms_fair (a ∷ []) shape h = f_fixed many (fail_place 1) (lit< tt) (a.1 shape (fail_place 1) (λ m. (h m).0) (λ m. (h m).1))
+  arms_fair (a ∷ []) shape h = f_fixed many (fail_place 1) (fails_inside 0) (a.1 shape (fail_place 1) (λ m. (h m).0) (λ m. (h m).1))
   arms_fair (a ∷ b ∷ more) shape h =
       f_miss many {q = later_arms (map arm_code (map (λ z. z.0) (b ∷ more))) shape} {r = λ miss. pair 2 ▷ restore ▷ arm_code a.0 shape miss}
       (later_fair (b ∷ more) shape (λ m. (h m).2)) (λ miss. f_both many (ok_pair 2 refl) (f_both many restore_ok (a.1 shape miss (λ m. (h m).0) (λ m. (h m).1))))
@@ -241,11 +242,11 @@ module _ (units : List TestUnit) (shapes : List Shape) where
   expr_fair (layer.Block u) shape h = ok_block u (block_below shape u (h 0))
   expr_fair (layer.Call f x) shape h =
       f_both many (ok_dup 1 refl) (f_both many (f.1 shape (λ m. (h m).0)) (f_both many (ok_roll (pos 2) refl)
-      (f_both many (x.1 shape (λ m. (h m).1)) (ok_calls call_place (lit< tt)))))
+      (f_both many (x.1 shape (λ m. (h m).1)) (ok_calls call_place call_inside))))
   expr_fair (layer.Tuple es) shape h = f_both many (items_fair es shape (λ m. (h m).1)) (pairs_ok (length (map expr_code (map (λ z. z.0) es)) - 1))
   expr_fair (layer.New e) shape h =
       f_both many (f_constant many 26 0 (lit< tt) refl (lit< tt)) (f_both many (e.1 shape h)
-      (f_both many (ok_place apply_place (lit< tt)) (f_number many 20 (pos 2) (lit< tt) refl refl)))
+      (f_both many (ok_place apply_place apply_inside) (f_number many 20 (pos 2) (lit< tt) refl refl)))
   expr_fair (layer.Case e as') shape h =
       f_both many (ok_constant 1 (lit< tt)) (f_both many (ok_roll (pos 2) refl) (f_both many (ok_dup 1 refl) (f_both many (e.1 shape (λ m. (h m).0))
       (f_both many (ok_constant 1 (lit< tt)) (f_both many (ok_roll (pos 2) refl) (f_both many (ok_pair 1 refl) (arms_fair as' shape (λ m. (h m).2))))))))
@@ -263,7 +264,7 @@ module _ (units : List TestUnit) (shapes : List Shape) where
   test_fair (layer.Same e) shape miss n h =
       f_both many (ok_dup 1 refl) (f_both many (ok_nth (pos 1) refl) (f_both many (ok_pick 3 refl)
       (f_both many (let few = (h 0).1 in ok_nth (minus n) (rest_in_range n (omega (arith, few)))) (f_both many (anywhere (e.1 shape (λ m. (h m).0)))
-      (f_both many (ok_calls same_place (lit< tt)) (f_both many (ok_miss miss (omega arith)) (ok_nth (negsuc 0) refl)))))))
+      (f_both many (ok_calls same_place same_inside) (f_both many (ok_miss miss (omega arith)) (ok_nth (negsuc 0) refl)))))))
   test_fair layer.Bind shape miss n h =
       f_both many (ok_part 1 refl) (f_both many (ok_roll (pos 3) refl) (f_both many (ok_roll (pos 2) refl) (f_both many (ok_pair 1 refl) (ok_roll (pos 2) refl))))
   test_fair layer.Skip shape miss n h = ok_nth (negsuc 0) refl
@@ -297,7 +298,7 @@ module _ (units : List TestUnit) (shapes : List Shape) where
   branch_fair y shape other h i =
       three_fair {yes = drop 1 ▷ block y.block} {no = eq (Constant 2) ▷ choose (fail_place 5)}
       {first = λ n. dup 1 ▷ expr_code y.condition.0 shape ▷ dup 1 ▷ eq (Constant 3) ▷ choose n}
-      (f_both many (ok_drop 1 refl) (ok_block y.block (block_below shape y.block i))) (f_both many (ok_eq 2 (lit< tt)) (ok_fail 5 (lit< tt)))
+      (f_both many (ok_drop 1 refl) (ok_block y.block (block_below shape y.block i))) (f_both many (ok_eq 2 (lit< tt)) (ok_fail 5 (fails_inside 4)))
       (λ n. f_both many (ok_dup 1 refl) (f_both many (anywhere (y.condition.1 shape h)) (f_both many (ok_dup 1 refl)
       (f_both many (ok_eq 3 (lit< tt)) (ok_miss n (omega arith)))))) other
 

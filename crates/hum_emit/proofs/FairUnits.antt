@@ -18,6 +18,7 @@ use Rattle.hum_emit.specs.Templates.{matching, after_all, expr_code, test_code, 
 use Rattle.hum_emit.specs.Made.{Descend}
 use Rattle.hum_emit.specs.Shapes.{Fits, behind_statement, StatementFits, StatementsFit, UnitFits, fits_to}
 use Rattle.hum_emit.proofs.Expressions.{after_all_is}
+use Rattle.hum_emit.proofs.FixedPlaces.{end_inside, exec_inside, apply_inside, fails_inside}
 use Rattle.hum_emit.proofs.Fair.{Fair, After, Fairly, f_one, f_number, f_constant, f_jump, f_nothing, f_both, f_to, f_fixed, later}
 use Rattle.hum_emit.proofs.FairTrees.{ok_constant, ok_place, ok_dup, ok_drop, ok_pick, ok_roll, ok_pair, ok_typeq, ok_fail, ok_calls, fair_expr, fair_tests}
 
@@ -31,7 +32,7 @@ module _ (units : List TestUnit) (shapes : List Shape) where
   match_fair : (ts : List Test) (shape : Shape) → ((m : ℕ) → (within m).TestsFit shape ts 1 0) → Fairly many 0 0 (matching (map test_code ts) shape)
   match_fair ts shape h =
       f_both many (ok_constant units shapes 1 (lit< tt)) (f_both many (ok_roll units shapes (pos 2) refl) (f_both many (ok_pair units shapes 1 refl)
-      (f_both many (f_fixed many (fail_place 1) (lit< tt) (fair_tests units shapes ts shape (fail_place 1) 1 0 (λ m. h (suc m)))) (ok_drop units shapes 1 refl))))
+      (f_both many (f_fixed many (fail_place 1) (fails_inside 0) (fair_tests units shapes ts shape (fail_place 1) 1 0 (λ m. h (suc m)))) (ok_drop units shapes 1 refl))))
 
   part_fair : (e : TestExpr) (shape : Shape) → ((m : ℕ) → (within m).ExprFits shape e) → Fairly many 0 0 (dup 1 ▷ expr_code e shape)
   part_fair e shape h = f_both many (ok_dup units shapes 1 refl) (fair_expr units shapes e shape h)
@@ -44,15 +45,15 @@ module _ (units : List TestUnit) (shapes : List Shape) where
   statement_fair stmt.Defined shape h = f_constant many 26 0 (lit< tt) refl (lit< tt)
   statement_fair (stmt.Send e target) shape h =
       f_both many (part_fair e shape (λ m. (h m).0)) (f_both many (ok_pick units shapes 2 refl) (f_both many (fair_expr units shapes target shape (λ m. (h m).1))
-      (f_both many (ok_dup units shapes 1 refl) (f_both many (ok_typeq units shapes actor_type (lit< tt)) (f_both many (ok_fail units shapes 3 (lit< tt))
+      (f_both many (ok_dup units shapes 1 refl) (f_both many (ok_typeq units shapes actor_type (lit< tt)) (f_both many (ok_fail units shapes 3 (fails_inside 2))
       (f_number many 20 (pos 0) (lit< tt) refl refl))))))
   statement_fair (stmt.Create e) shape h =
-      f_both many (part_fair e shape h) (f_both many (ok_place units shapes apply_place (lit< tt))
+      f_both many (part_fair e shape h) (f_both many (ok_place units shapes apply_place apply_inside)
       (f_both many (f_number many 20 (pos 2) (lit< tt) refl refl) (ok_pair units shapes 1 refl)))
   statement_fair (stmt.Become e) shape h =
-      f_both many (part_fair e shape h) (f_both many (ok_place units shapes apply_place (lit< tt)) (f_number many 20 (pos 4) (lit< tt) refl refl))
-  statement_fair (stmt.Throw e) shape h = f_to many (fail_place 7) (λ size fixed. omega (arith, fixed)) (part_fair e shape h)
-  statement_fair (stmt.Do e) shape h = f_both many (part_fair e shape h) (ok_calls units shapes exec_place (lit< tt))
+      f_both many (part_fair e shape h) (f_both many (ok_place units shapes apply_place apply_inside) (f_number many 20 (pos 4) (lit< tt) refl refl))
+  statement_fair (stmt.Throw e) shape h = f_to many (fail_place 7) (λ size fixed. let low = fails_inside 6 in omega (arith, fixed, low)) (part_fair e shape h)
+  statement_fair (stmt.Do e) shape h = f_both many (part_fair e shape h) (ok_calls units shapes exec_place exec_inside)
 
   shape_is : (x : TestStmt) (shape : Shape) → shape_after x shape ≡ behind_statement x shape
   shape_is (stmt.Let ts e) shape = ap (λ j. with_singles j shape) (after_all_is ts 0)
@@ -151,7 +152,8 @@ module _ (units : List TestUnit) (shapes : List Shape) where
       let below = units_code us shs s in
       let h = units_fair us shs (λ n k v other. fit n (suc k) v other) s fair in
       let fixed = h.fair.fixed in
-      let a = (unit_fair u shape (λ m. fit m 0 u shape refl refl)).at 0 below.0 h.fair (omega (arith, fixed)) in
+      let some = end_inside in
+      let a = (unit_fair u shape (λ m. fit m 0 u shape refl refl)).at 0 below.0 h.fair (omega (arith, fixed, some)) in
       let last = unit_last u shape 0 below.0 in
       let up = a.0.cells in
       let up_below = h.cells in
@@ -176,7 +178,7 @@ module _ (units : List TestUnit) (shapes : List Shape) where
 
   pub boot_fair : Fairly many 0 12 boot_code
   boot_fair =
-      f_both many (ok_place units shapes end_place (lit< tt)) (f_both many (ok_constant units shapes 1 (lit< tt)) (f_both many (push_fair 0 12 (lit≤ tt))
+      f_both many (ok_place units shapes end_place end_inside) (f_both many (ok_constant units shapes 1 (lit< tt)) (f_both many (push_fair 0 12 (lit≤ tt))
       (f_both many (f_number many 18 (pos 1) (lit< tt) refl refl) (f_both many (f_number many 18 (pos 2) (lit< tt) refl refl) (ok_pair units shapes 14 refl)))))
 
   pub first_entry : (size : ℕ) (entries : List ℕ) → 0 < size → Descend size entries → slice_index entries 0 < size

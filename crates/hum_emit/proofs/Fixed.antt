@@ -1,35 +1,386 @@
 -- The fixed code stands.
-use Rattle.std.proofs.Common.{◌≡◌, refl, ap, sym, ◌∙◌, ℕ, zero, suc, ◌<◌, ◌≤◌, pos, negsuc, Bool, true, false, List, [], ◌∷◌, ◌++◌, Option, Some, None, arith}
-use Rattle.std.specs.Prelude.{slice_get, nat_eq, ◌||◌}
-use Rattle.std.specs.List.{list_any}
+use Rattle.std.proofs.Common.{◌≡◌, refl, ap, sym, subst, ◌∙◌, ℕ, zero, suc, ◌<◌, ◌≤◌, pos, negsuc, Bool, true, false, List, [], ◌∷◌, ◌++◌, map, length, Option, Some, None, arith}
+use Rattle.std.specs.Prelude.{slice_get, slice_index, nat_eq, ◌||◌}
+use Rattle.std.specs.List.{list_any, AllByRecursion}
 use Rattle.std.proofs.lemmas.Bool.Decides.{nat_tests}
-use Rattle.std.proofs.lemmas.Option.{slice_get_within}
-use Rattle.cap_words.specs.Words.{W, Fix, Rom}
-use Rattle.cap_words.proofs.Places.{get-left}
+use Rattle.std.proofs.lemmas.List.{append-nil}
+use Rattle.cap_words.specs.Words.{W, Fix, nil, truth, fixnum_t, pair_t, func_t, block_t, undef}
 use Rattle.instr_table.specs.declared.op.Op.{Op}
 use Rattle.instr_table.specs.declared.op.Op.TheVariants as op
-use Rattle.instr_table.specs.Code.{named, with_next}
+use Rattle.instr_table.specs.Code.{named}
 use Rattle.hum_meaning.specs.Value.{BuiltIn, Add, Sub, Mul, Compare, Less, LessEqual, Greater, GreaterEqual, Equal, And, Or, Not}
 use Rattle.hum_code.specs.Comes.{At}
-use Rattle.hum_code.specs.Code.{Line}
-use Rattle.hum_code.specs.Runtime.{FailAt, BackAt, CallAt, ExecAt, ApplyAt, SameAt, PartsAt, CalculatesAt, CompareAt, AndAt, OrAt, NotAt, PrimitiveAt, IsFailure}
+use Rattle.hum_code.specs.Code.{Line, Choice}
+use Rattle.hum_code.specs.Runtime.{FailAt, BackAt, CallAt, ExecAt, ApplyAt, SameAt, PartsAt, NumbersAt, TruthAt, CalculatesAt, CompareAt, AndAt, OrAt, NotAt, PrimitiveAt, IsFailure}
+use Rattle.hum_code.proofs.Makings.{length_end}
+use Rattle.hum_emit.specs.declared.instruction.Field.TheVariants.{Number, Constant as ConstantField, Place}
+use Rattle.hum_emit.specs.declared.instruction.Field.{Field}
 use Rattle.hum_emit.specs.declared.instruction.Instruction.{Instruction}
-use Rattle.hum_emit.specs.Holds.{place_word, word_of, next_word}
-use Rattle.hum_emit.specs.Runtime.{runtime}
-use Rattle.hum_emit.proofs.Makes.{Image, layout}
+use Rattle.hum_emit.specs.Emitted.{Emitted, Piece, ◌▷◌, put, one, choose, jump, push, dup, drop, pick, roll, pair, part, nth, quad, typeq, eq}
+use Rattle.hum_emit.specs.Holds.{place_word, next_word}
+use Rattle.hum_emit.specs.Routines.{goes, unless, or_else, either, looped, each, cmp, alu, message, my_state, false_word, back, fails_with, call_code, exec_code, apply_code, pairs_code, more_code, leaves_code, compare_turn, compare_loop, compare_code, two_of_them, numbers, truth as truth_code, calculates, orders, both, any, negates, built_in_codes}
+use Rattle.hum_emit.specs.Runtime.{failure_codes, no_code, ended, aborted, failed, went_back, called, executed, applied, compared, same_called, built_in, fixed_code, end_place, fail_in, fail_place, routine_places}
+use Rattle.hum_emit.specs.Program.{routine_cells, start}
+use Rattle.hum_emit.proofs.Makes.{Kept, Begins, begins_same, begins_later, put_begins, Growing, g_one, g_both, Image, layout, put_stands, Makes, makes_one, makes_both, makes_as, makes_miss, makes_to, makes_choose, makes_calls, makes_jump, pushes, dups, drops, picks, rolls, pairs_up, parts, nths}
+use Rattle.hum_emit.proofs.Expressions.{at, typeqs, eqs}
 
--- the number of the next instruction, or 0
-abbrev next_of : Option Instruction → Option ℕ
-next_of None = None
-next_of (Some x) = x.next
+-- ---- pieces that have as many instructions
 
-abbrev or_first : Option ℕ → ℕ
-or_first None = 0
-or_first (Some i) = i
+pub record Alike (q r : Piece) : Type 0 where
+  pub at : (j k : ℕ) (s t : Emitted) → length s.code ≡ length t.code → length (q j s).0.code ≡ length (r k t).0.code
 
--- the instruction that comes after that one
-abbrev after : ℕ → ℕ
-after i = or_first (next_of (slice_get runtime i))
+alike_put : (x y : ℕ → Instruction) → Alike (λ k s. put (x k) s) (λ k s. put (y k) s)
+alike_put x y = record { at = λ j k s t h. length_end s.code (x j) ∙ (ap suc h ∙ sym (length_end t.code (y k))) }
+
+alike_one : (operation : ℕ) (field : Field) → Alike (one operation field) (one operation field)
+alike_one operation field =
+    alike_put (λ k. record { operation = operation; field = field; next = Some k }) (λ k. record { operation = operation; field = field; next = Some k })
+
+alike_choose : (i j : ℕ) → Alike (choose i) (choose j)
+alike_choose i j = alike_put (λ k. record { operation = 15; field = Place k; next = Some i }) (λ k. record { operation = 15; field = Place k; next = Some j })
+
+alike_unless : (i j : ℕ) → Alike (unless i) (unless j)
+alike_unless i j = alike_put (λ k. record { operation = 15; field = Place i; next = Some k }) (λ k. record { operation = 15; field = Place j; next = Some k })
+
+alike_goes : (i j : ℕ) → Alike (goes i) (goes j)
+alike_goes i j = record { at = λ j k s t h. h }
+
+alike_both : {q r q' r' : Piece} → Alike q q' → Alike r r' → Alike (q ▷ r) (q' ▷ r')
+alike_both {q} {r} {q'} {r'} g h =
+    record { at = λ j k s t same. g.at (r j s).1 (r' k t).1 (r j s).0 (r' k t).0 (h.at j k s t same) }
+
+alike_either : {q r q' r' : Piece} → Alike q q' → Alike r r' → Alike (either q r) (either q' r')
+alike_either {q} {r} {q'} {r'} g h = record {
+  at = λ j k s t same.
+      let x = r j s in
+      let y = r' k t in
+      (alike_both {q = choose x.1} {r = q} {q' = choose y.1} {r' = q'} (alike_choose x.1 y.1) g).at j k x.0 y.0 (h.at j k s t same);
+}
+
+-- where a turn of the comparison begins does not depend on the number that it goes back to
+turns_alike : (differ deny i k : ℕ) (s : Emitted) → (compare_turn differ deny i k s).1 ≡ (compare_turn differ deny 0 k s).1
+turns_alike differ deny i k s =
+    (alike_both {q = typeq 10} {r = either (pairs_code i differ) (leaves_code i differ deny)} {q' = typeq 10}
+    {r' = either (pairs_code 0 differ) (leaves_code 0 differ deny)} (alike_one 11 (ConstantField 10)) (alike_either pairs_alike leaves_alike)).at k k s s refl
+  where
+    pairs_alike : Alike (pairs_code i differ) (pairs_code 0 differ)
+    pairs_alike =
+        alike_both (alike_one 3 (Number (pos 2))) (alike_both (alike_one 11 (ConstantField 10)) (alike_both (alike_choose differ differ)
+        (alike_both (alike_one 6 (Number (pos 2))) (alike_both (alike_one 1 (Number (pos 1))) (alike_both (alike_one 8 (Number (pos 2)))
+        (alike_both (alike_one 8 (Number (pos 1))) (alike_both (alike_one 3 (Number (pos 2))) (alike_both (alike_one 8 (Number (pos 1)))
+        (alike_both (alike_one 8 (Number (pos 1))) (alike_goes i 0))))))))))
+
+    tails_alike : Alike (part 2 ▷ nth (negsuc 0) ▷ roll (pos 2) ▷ nth (negsuc 0) ▷ roll (pos 2) ▷ goes i)
+        (part 2 ▷ nth (negsuc 0) ▷ roll (pos 2) ▷ nth (negsuc 0) ▷ roll (pos 2) ▷ goes 0)
+    tails_alike =
+        alike_both (alike_one 7 (Number (pos 2))) (alike_both (alike_one 8 (Number (negsuc 0))) (alike_both (alike_one 4 (Number (pos 2)))
+        (alike_both (alike_one 8 (Number (negsuc 0))) (alike_both (alike_one 4 (Number (pos 2))) (alike_goes i 0)))))
+
+    more_alike : Alike (more_code i) (more_code 0)
+    more_alike =
+        alike_both (alike_one 1 (Number (pos 1)))
+        (alike_either tails_alike (alike_both (alike_one 2 (Number (pos 1))) (alike_one 0 (ConstantField 3))))
+
+    leaves_alike : Alike (leaves_code i differ deny) (leaves_code 0 differ deny)
+    leaves_alike =
+        alike_both (alike_one 1 (Number (pos 1))) (alike_both (alike_one 11 (ConstantField 14)) (alike_both (alike_unless differ differ)
+        (alike_both (alike_one 1 (Number (pos 1))) (alike_both (alike_one 11 (ConstantField 15)) (alike_both (alike_unless differ differ)
+        (alike_both (alike_one 13 (Number (pos 0))) (alike_both (alike_choose deny deny) more_alike)))))))
+
+-- ---- pieces one after the other
+
+pub all_grow : (ps : List Piece) → AllByRecursion Growing ps → (k : ℕ) (s : Emitted) → Begins s (each ps k s).0
+all_grow [] h k s = begins_same s
+all_grow (p ∷ ps) h k s = begins_later _ _ _ (h.0.at k s) (all_grow ps h.1 k (p k s).0)
+
+module _ (c : Image) where
+  makes_unless : {hit : ℕ} → Makes c (unless hit) (λ a k. Choice c.setting a (at c hit) k)
+  makes_unless {hit} = record {
+    grows = record { at = λ k s. put_begins (record { operation = 15; field = Place hit; next = Some k }) s };
+    stands = λ k s later. put_stands c (record { operation = 15; field = Place hit; next = Some k }) _ s refl later;
+  }
+
+  makes_or_else : {first : ℕ → Piece} {other : Piece} {S : W → W → Type 0} {T : W → W → W → Type 0} → Makes c other S
+      → ((miss : ℕ) → Makes c (first miss) (T (at c miss))) → Makes c (or_else first other) (λ a k. (next : W) × T next a k × S next k)
+  makes_or_else {first} {other} {S} {T} g h = makes_miss {q = other} {r = first} {S = S} {T = T} g h
+
+  makes_either : {q r : Piece} {S T : W → W → Type 0} → Makes c q S → Makes c r T
+      → Makes c (either q r) (λ a k. (n : W) × ((y : W) × Choice c.setting a y n × S y k) × T n k)
+  makes_either {q} {r} {S} {T} g h =
+      makes_or_else {first = λ other. choose other ▷ q} {other = r} {S = T} {T = λ n a k. (y : W) × Choice c.setting a y n × S y k} h
+      (λ other. makes_both makes_choose g)
+
+  makes_looped : {body : ℕ → Piece} (T : W → W → W → Type 0) → ((i : ℕ) → Makes c (body i) (T (at c i)))
+      → ((i k : ℕ) (s : Emitted) → (body i k s).1 ≡ (body 0 k s).1) → Makes c (looped body) (λ a k. T a a k)
+  makes_looped {body} T h alike = record {
+    grows = record { at = λ k s. (h (body 0 k s).1).grows.at k s };
+    stands = λ k s later.
+        let head = (body 0 k s).1 in
+        subst (λ i. T (at c i) (at c (body head k s).1) (at c k)) (sym (alike head k s)) ((h head).stands k s later);
+  }
+
+  each_stands : (ps : List Piece) → AllByRecursion Growing ps → (k : ℕ) (s : Emitted) → Begins (each ps k s).0 c.final
+      → (i : ℕ) {q : Piece} {S : W → W → Type 0} → slice_get ps i ≡ Some q → Makes c q S → S (at c (slice_index (each ps k s).1 i)) (at c k)
+  each_stands [] grow k s later i {q} {S} is made = absurd (let no : None ≡ Some q = is in cc)
+  each_stands (p ∷ ps) grow k s later zero {q} {S} is made =
+      let same : p ≡ q = (let e : Some p ≡ Some q = is in cc) in
+      subst (λ (r : Piece). S (at c (r k s).1) (at c k)) (sym same)
+      (made.stands k s (subst (λ (r : Piece). Begins (r k s).0 c.final) same (begins_later _ _ _ (all_grow ps grow.1 k (p k s).0) later)))
+  each_stands (p ∷ ps) grow k s later (suc i) {q} {S} is made = each_stands ps grow.1 k (p k s).0 later i is made
+
+  -- ---- single instructions
+
+  takes : Makes c (quad (negsuc 2)) (λ a k. At c.setting a (op.QuadTake (negsuc 2)) k)
+  takes = makes_one _ refl
+
+  cmps : (n : ℕ) → named 13 (Fix (pos n)) ≡ Some (op.Cmp (pos n)) → Makes c (cmp n) (λ a k. At c.setting a (op.Cmp (pos n)) k)
+  cmps n is = makes_one _ is
+
+  alus : (n : ℕ) → named 14 (Fix (pos n)) ≡ Some (op.Alu (pos n)) → Makes c (alu n) (λ a k. At c.setting a (op.Alu (pos n)) k)
+  alus n is = makes_one _ is
+
+  messages : Makes c message (λ a k. At c.setting a (op.Msg (pos 0)) k)
+  messages = makes_one _ refl
+
+  states : Makes c my_state (λ a k. At c.setting a (op.My (pos 2)) k)
+  states = makes_one _ refl
+
+  -- ---- calling, executing and applying
+
+  made_back : Makes c back (λ a k. BackAt c.setting a)
+  made_back = makes_as (makes_both (rolls (pos 2) refl) makes_jump) (λ a k s. (s.2.0, (s.0, s.1, s.2.1)))
+
+  -- the parts of the routine that calls, the first one at a
+  abbrev Calls : W → Type 0
+  Calls a = (b : W) × (d : W) × (k : W) × Line c.setting (op.Roll (negsuc 2) ∷ op.Roll (pos 2) ∷ op.Dup (pos 1) ∷ op.Typeq func_t ∷ []) a b
+      × Choice c.setting b d ((layout c).fail 2) × Line c.setting (op.QuadTake (negsuc 2) ∷ op.Drop (pos 1) ∷ op.Jump ∷ []) d k
+
+  made_call : Makes c (call_code fail_place) (λ a k. Calls a)
+  made_call =
+      makes_as (makes_both (makes_both (rolls (negsuc 2) refl) (makes_both (rolls (pos 2) refl) (makes_both (dups 1 refl) (typeqs c 14))))
+      (makes_both makes_choose (makes_both takes (makes_both (drops 1 refl) makes_jump))))
+      (λ a k s. (s.0, s.2.0, s.2.2.2.2.0, s.1, s.2.1, (s.2.2.0, s.2.2.1, (s.2.2.2.0, s.2.2.2.1, s.2.2.2.2.1))))
+
+  abbrev Executes : W → Type 0
+  Executes a = (b : W) × (block : W) × (none : W) × (j : W) × (k : W)
+      × Line c.setting (op.Roll (pos 2) ∷ op.Dup (pos 1) ∷ op.Typeq block_t ∷ []) a b × Choice c.setting b block none
+      × Line c.setting (op.QuadTake (negsuc 2) ∷ op.Drop (pos 1) ∷ []) block j × At c.setting none (op.Drop (pos 1)) j × At c.setting j op.Jump k
+
+  made_exec : Makes c exec_code (λ a k. Executes a)
+  made_exec =
+      makes_as (makes_both (makes_both (rolls (pos 2) refl) (makes_both (dups 1 refl) (typeqs c 15)))
+      (makes_both (makes_either (makes_both takes (drops 1 refl)) (drops 1 refl)) makes_jump))
+      (λ a k s. (s.0, s.2.1.1.0, s.2.1.0, s.2.0, s.2.2.0, s.1, s.2.1.1.1, s.2.1.1.2, s.2.1.2, s.2.2.1))
+
+  made_apply : (call exec : ℕ) → Makes c (apply_code call exec) (λ a k. (b : W) × Line c.setting (op.My (pos 2) ∷ op.Msg (pos 0) ∷ []) a b
+      × ((r : W) × At c.setting b (op.Push r) (at c call) × At c.setting r (op.Push k) (at c exec)))
+  made_apply call exec = makes_both (makes_both states messages) (makes_both makes_calls makes_calls)
+
+  -- ---- comparison
+
+  abbrev PairsIn : (differ loop a : W) → Type 0
+  PairsIn differ loop a = (b : W) × (d : W) × Line c.setting (op.Pick (pos 2) ∷ op.Typeq pair_t ∷ []) a b × Choice c.setting b d differ
+      × Line c.setting (op.Pair (pos 2) ∷ op.Dup (pos 1) ∷ op.Nth (pos 2) ∷ op.Nth (pos 1) ∷ op.Pick (pos 2) ∷ op.Nth (pos 1) ∷ op.Nth (pos 1) ∷ []) d loop
+
+  made_pairs : (head differ : ℕ) → Makes c (pairs_code head differ) (λ a k. PairsIn (at c differ) (at c head) a)
+  made_pairs head differ =
+      makes_as (makes_to {q = (pick 2 ▷ typeq 10) ▷ choose differ ▷ pair 2 ▷ dup 1 ▷ nth (pos 2) ▷ nth (pos 1) ▷ pick 2 ▷ nth (pos 1) ▷ nth (pos 1)} head
+      (makes_both (makes_both (picks 2 refl) (typeqs c 10)) (makes_both makes_choose
+      (makes_both (pairs_up 2 refl) (makes_both (dups 1 refl) (makes_both (nths (pos 2) refl) (makes_both (nths (pos 1) refl)
+      (makes_both (picks 2 refl) (makes_both (nths (pos 1) refl) (nths (pos 1) refl))))))))))
+      (λ a k s. (s.0, s.2.0, s.1, s.2.1, s.2.2))
+
+  abbrev MoreIn : (loop a k : W) → Type 0
+  MoreIn loop a k = (b : W) × (tails : W) × (yes : W) × At c.setting a (op.Dup (pos 1)) b × Choice c.setting b tails yes
+      × Line c.setting (op.Part (pos 2) ∷ op.Nth (negsuc 0) ∷ op.Roll (pos 2) ∷ op.Nth (negsuc 0) ∷ op.Roll (pos 2) ∷ []) tails loop
+      × Line c.setting (op.Drop (pos 1) ∷ op.Push (truth true) ∷ []) yes k
+
+  made_more : (head : ℕ) → Makes c (more_code head) (λ a k. MoreIn (at c head) a k)
+  made_more head =
+      makes_as (makes_both (dups 1 refl) (makes_either {q = part 2 ▷ nth (negsuc 0) ▷ roll (pos 2) ▷ nth (negsuc 0) ▷ roll (pos 2) ▷ goes head}
+      (makes_to {q = part 2 ▷ nth (negsuc 0) ▷ roll (pos 2) ▷ nth (negsuc 0) ▷ roll (pos 2)} head
+      (makes_both (parts 2 refl) (makes_both (nths (negsuc 0) refl) (makes_both (rolls (pos 2) refl) (makes_both (nths (negsuc 0) refl) (rolls (pos 2) refl))))))
+      (makes_both (drops 1 refl) (pushes (ConstantField 3)))))
+      (λ a k s. (s.0, s.2.1.0, s.2.0, s.1, s.2.1.1, s.2.1.2, s.2.2))
+
+  abbrev LeavesIn : (differ deny loop a k : W) → Type 0
+  LeavesIn differ deny loop a k = (e : W) × (f : W) × (g : W) × (h : W) × (i : W) × (more : W)
+      × Line c.setting (op.Dup (pos 1) ∷ op.Typeq func_t ∷ []) a e × Choice c.setting e differ f
+      × Line c.setting (op.Dup (pos 1) ∷ op.Typeq block_t ∷ []) f g × Choice c.setting g differ h
+      × At c.setting h (op.Cmp (pos 0)) i × Choice c.setting i more deny × MoreIn loop more k
+
+  made_leaves : (head differ deny : ℕ) → Makes c (leaves_code head differ deny) (λ a k. LeavesIn (at c differ) (at c deny) (at c head) a k)
+  made_leaves head differ deny =
+      makes_as (makes_both (makes_both (dups 1 refl) (typeqs c 14)) (makes_both makes_unless
+      (makes_both (makes_both (dups 1 refl) (typeqs c 15)) (makes_both makes_unless (makes_both (cmps 0 refl) (makes_both makes_choose (made_more head)))))))
+      (λ a k s. (
+        s.0,
+        s.2.0,
+        s.2.2.0,
+        s.2.2.2.0,
+        s.2.2.2.2.0,
+        s.2.2.2.2.2.0,
+        s.1,
+        s.2.1,
+        s.2.2.1,
+        s.2.2.2.1,
+        s.2.2.2.2.1,
+        s.2.2.2.2.2.1,
+        s.2.2.2.2.2.2,
+      ))
+
+  abbrev TurnIn : (differ deny loop a k : W) → Type 0
+  TurnIn differ deny loop a k = (b : W) × (d : W) × (leaf : W) × Line c.setting (op.Dup (pos 1) ∷ op.Typeq pair_t ∷ []) a b × Choice c.setting b d leaf
+      × PairsIn differ loop d × LeavesIn differ deny loop leaf k
+
+  made_turn : (differ deny head : ℕ) → Makes c (compare_turn differ deny head) (TurnIn (at c differ) (at c deny) (at c head))
+  made_turn differ deny head =
+      makes_as (makes_both (makes_both (dups 1 refl) (typeqs c 10)) (makes_either (made_pairs head differ) (made_leaves head differ deny)))
+      (λ a k s. (s.0, s.2.1.0, s.2.0, s.1, s.2.1.1, s.2.1.2, s.2.2))
+
+  made_turns : (differ deny : ℕ) → Makes c (looped (compare_turn differ deny)) (λ a k. TurnIn (at c differ) (at c deny) a a k)
+  made_turns differ deny =
+      makes_looped {body = compare_turn differ deny} (TurnIn (at c differ) (at c deny)) (made_turn differ deny) (turns_alike differ deny)
+
+  -- the loop at a, and what answers that the values differ
+  abbrev LoopIn : (a k : W) → Type 0
+  LoopIn a k = (differ : W) × (deny : W) × TurnIn differ deny a a k × At c.setting differ (op.Drop (pos 2)) deny
+      × Line c.setting (op.Drop (pos 1) ∷ op.Push (truth false) ∷ []) deny k
+
+  answers_no : Makes c (drop 1 ▷ false_word) (λ a k. Line c.setting (op.Drop (pos 1) ∷ op.Push (truth false) ∷ []) a k)
+  answers_no = makes_both (drops 1 refl) (pushes (ConstantField 2))
+
+  drops_two : Makes c (drop 2) (λ a k. At c.setting a (op.Drop (pos 2)) k)
+  drops_two = drops 2 refl
+
+  made_loop : Makes c compare_loop LoopIn
+  made_loop = record {
+    grows = record {
+      at = λ k s.
+          let deny = (drop 1 ▷ false_word) k s in
+          let differ = drop 2 deny.1 deny.0 in
+          begins_later _ _ _ (answers_no.grows.at k s)
+          (begins_later _ _ _ (drops_two.grows.at deny.1 deny.0) ((made_turns differ.1 deny.1).grows.at k differ.0));
+    };
+    stands = λ k s later.
+        let deny = (drop 1 ▷ false_word) k s in
+        let differ = drop 2 deny.1 deny.0 in
+        let in_differ = begins_later _ _ _ ((made_turns differ.1 deny.1).grows.at k differ.0) later in (
+          at c differ.1,
+          at c deny.1,
+          (made_turns differ.1 deny.1).stands k differ.0 later,
+          drops_two.stands deny.1 deny.0 in_differ,
+          answers_no.stands k s (begins_later _ _ _ (drops_two.grows.at deny.1 deny.0) in_differ),
+        );
+  }
+
+  made_compare : Makes c compare_code (λ a k. (loop : W) × Line c.setting (op.Push nil ∷ op.Roll (negsuc 2) ∷ []) a loop × LoopIn loop k)
+  made_compare = makes_both (makes_both (pushes (ConstantField 1)) (rolls (negsuc 2) refl)) made_loop
+
+  -- ---- built-in functions, which go on with what goes back
+
+  made_two : Makes c (two_of_them fail_place) (λ a k. PartsAt c.setting (layout c) a k)
+  made_two =
+      makes_as (makes_both (makes_both (drops 1 refl) (makes_both (dups 1 refl) (typeqs c 10)))
+      (makes_both makes_choose (makes_both (parts 1 refl) (rolls (pos 2) refl))))
+      (λ a k s. (s.0, s.2.0, s.1, s.2.1, s.2.2))
+
+  made_numbers : Makes c (numbers fail_place) (λ a k. NumbersAt c.setting (layout c) a k)
+  made_numbers =
+      makes_as (makes_both (makes_both (dups 1 refl) (typeqs c 5)) (makes_both makes_choose (makes_both (makes_both (picks 2 refl) (typeqs c 5)) makes_choose)))
+      (λ a k s. (s.0, s.2.0, s.2.2.0, s.1, s.2.1, s.2.2.1, s.2.2.2))
+
+  made_truth : (n : ℕ) → named 3 (Fix (pos n)) ≡ Some (op.Pick (pos n))
+      → Makes c (truth_code fail_place n) (λ a k. TruthAt c.setting (layout c) n a k)
+  made_truth n is =
+      makes_as (makes_or_else {first = λ other. pick n ▷ eq (ConstantField 3) ▷ choose other}
+      {T = λ next a k. (b : W) × Line c.setting (op.Pick (pos n) ∷ op.Eq (truth true) ∷ []) a b × Choice c.setting b k next}
+      (makes_both (makes_both (picks n is) (eqs c (ConstantField 2))) makes_choose)
+      (λ other. makes_both (makes_both (picks n is) (eqs c (ConstantField 3))) makes_choose))
+      (λ a k s. (s.1.0, s.0, s.2.0, s.1.1, s.1.2, s.2.1, s.2.2))
+
+  made_calculates : {q : Piece} (o : Op) → Makes c q (λ a k. At c.setting a o k)
+      → Makes c (calculates fail_place q) (λ a k. BackAt c.setting k → CalculatesAt c.setting (layout c) o a)
+  made_calculates o made =
+      makes_as (makes_both made_two (makes_both made_numbers made)) (λ a k s back. (s.0, s.2.0, k, s.1, s.2.1, s.2.2, back))
+
+  made_orders : Makes c (orders fail_place) (λ a k. BackAt c.setting k → CompareAt c.setting (layout c) a)
+  made_orders =
+      makes_as (makes_both made_two (makes_both made_numbers (makes_both (makes_both (dups 2 refl) (cmps 3 refl))
+      (makes_either (makes_both (drops 2 refl) (pushes (Number (negsuc 0))))
+      (makes_both (cmps 2 refl) (makes_either (pushes (Number (pos 1))) (pushes (Number (pos 0)))))))))
+      (λ a k s back.
+      let choice = s.2.2.2 in
+      let second = choice.2.2 in (
+        s.0,
+        s.2.0,
+        s.2.2.0,
+        choice.1.0,
+        choice.0,
+        choice.2.0,
+        second.1.0,
+        second.0,
+        k,
+        s.1,
+        s.2.1,
+        s.2.2.1,
+        choice.1.1,
+        (k, choice.1.2, back),
+        choice.2.1,
+        second.1.1,
+        second.1.2,
+        second.2,
+        back,
+      ))
+
+  made_equal : (state : ℕ) → Makes c (two_of_them fail_place ▷ goes state) (λ a k. PartsAt c.setting (layout c) a (at c state))
+  made_equal state = makes_to {q = two_of_them fail_place} state made_two
+
+  made_both : Makes c (both fail_place) (λ a k. BackAt c.setting k → AndAt c.setting (layout c) a)
+  made_both =
+      makes_as (makes_both made_two (makes_both (made_truth 2 refl) (makes_both (made_truth 1 refl)
+      (makes_or_else {first = choose} {T = λ next a k. Choice c.setting a k next} answers_no (λ other. makes_choose)))))
+      (λ a k s back. (s.0, s.2.0, s.2.2.0, k, s.2.2.2.0, s.1, s.2.1, s.2.2.1, s.2.2.2.1, back, (k, s.2.2.2.2, back)))
+
+  made_any : Makes c (any fail_place) (λ a k. BackAt c.setting k → OrAt c.setting (layout c) a)
+  made_any =
+      makes_as (makes_both made_two (makes_both (made_truth 2 refl) (makes_both (made_truth 1 refl)
+      (makes_or_else {first = unless} {T = λ next a k. Choice c.setting a next k} (makes_both (drops 1 refl) (pushes (ConstantField 3))) (λ other. makes_unless)))))
+      (λ a k s back. (s.0, s.2.0, s.2.2.0, s.2.2.2.0, k, s.1, s.2.1, s.2.2.1, s.2.2.2.1, (k, s.2.2.2.2, back), back))
+
+  made_negates : Makes c (negates fail_place) (λ a k. BackAt c.setting k → NotAt c.setting (layout c) a)
+  made_negates =
+      makes_as (makes_both (drops 1 refl) (makes_both (made_truth 1 refl) (eqs c (ConstantField 2))))
+      (λ a k s back. (s.0, s.2.0, k, s.1, s.2.1, s.2.2, back))
+
+  built_ins_grow : (state : ℕ) → AllByRecursion Growing (built_in_codes fail_place state)
+  built_ins_grow state = (
+    (made_calculates _ (alus 4 refl)).grows,
+    (
+      (made_calculates _ (alus 5 refl)).grows,
+      (
+        (made_calculates _ (alus 6 refl)).grows,
+        (
+          made_orders.grows,
+          (
+            (made_calculates _ (cmps 3 refl)).grows,
+            (
+              (made_calculates _ (cmps 4 refl)).grows,
+              (
+                (made_calculates _ (cmps 2 refl)).grows,
+                ((made_calculates _ (cmps 1 refl)).grows, ((made_equal state).grows, (made_both.grows, (made_any.grows, (made_negates.grows, tt))))),
+              ),
+            ),
+          ),
+        ),
+      ),
+    ),
+  )
+
+  fails_grow : AllByRecursion Growing (map fails_with failure_codes)
+  fails_grow = (g_one, (g_one, (g_one, (g_one, (g_one, (g_one, (g_one, tt)))))))
+
+-- ---- failures are of the codes from 1 to 7
 
 no_either : (a b : Bool) → a ≡ false → b ≡ false → a || b ≡ false
 no_either false b h k = k
@@ -44,325 +395,199 @@ no_failure code h =
     (no_either _ _ (differ 4 code (omega (arith, h))) (no_either _ _ (differ 5 code (omega (arith, h)))
     (no_either _ _ (differ 7 code (omega (arith, h))) refl)))))
 
-module _ (c : Image) (more : List Instruction) (begins : c.final.code ≡ runtime ++ more) where
-  abbrev place : ℕ → W
-  place = place_word c.places
+-- ---- one routine after the other, in each store that holds them all
 
-  abbrev read : Option Instruction → Option (Option Op × Option ℕ)
-  read None = None
-  read (Some x) = Some (named x.operation (word_of c.places x.field), x.next)
+-- the fixed code has no data
+no_cells : built_in.0.cells ≡ []
+unfolding ended aborted failed went_back called executed applied compared same_called built_in
+no_cells = refl
 
-  abbrev operation_in : Option (Option Op × Option ℕ) → Option Op
-  operation_in None = None
-  operation_in (Some r) = r.0
+no_symbols : (name : List ℕ) → built_in.0.symbols name ≡ None
+unfolding ended aborted failed went_back called executed applied compared same_called built_in
+no_symbols name = refl
 
-  abbrev next_in : Option (Option Op × Option ℕ) → Option ℕ
-  next_in None = None
-  next_in (Some r) = r.1
+kept_none : {s : Emitted} → ((name : List ℕ) → s.symbols name ≡ None) → Kept s
+kept_none none = record {
+  cells = λ name n h. absurd (let no : None ≡ Some n = sym (none name) ∙ h in cc);
+  names = λ a b n h k. absurd (let no : None ≡ Some n = sym (none a) ∙ h in cc);
+}
 
-  -- what stands at a number: the operation, and the number of the next instruction
-  abbrev Reads : ℕ → Op → Option ℕ → Type 0
-  Reads i o next = read (slice_get runtime i) ≡ Some (Some o, next)
+pub kept_start : Kept start
+kept_start = kept_none (λ name. refl)
 
-  found : (i : ℕ) (x : Option Instruction) (o : Op) (next : Option ℕ) → slice_get runtime i ≡ x → read x ≡ Some (Some o, next) → At c.setting (place i) o (next_word c.places next)
-  found i None o next is reads = absurd (cc)
-  found i (Some x) o next is reads =
-      let operation : named x.operation (word_of c.places x.field) ≡ Some o = ap operation_in reads in
-      let goes : x.next ≡ next = ap next_in reads in
-      record {
-        is =
-            c.holds.instructions i x (ap (λ xs. slice_get xs i) begins ∙ (get-left runtime more i (slice_get_within runtime i x is) ∙ is))
-            ∙ (ap (λ y. with_next y (next_word c.places x.next)) operation ∙ ap (λ n. Some (o, next_word c.places n)) goes);
-      }
+built_start : Begins built_in.0 start
+unfolding fixed_code
+built_start = record {
+  code = [];
+  code_is = sym (append-nil built_in.0.code);
+  cells = routine_cells 0 routine_places;
+  cells_is = sym (ap (λ ds. ds ++ routine_cells 0 routine_places) no_cells);
+  symbols = λ name n h. absurd (let no : None ≡ Some n = sym (no_symbols name) ∙ h in cc);
+  keeps = λ h. kept_start;
+}
 
-  at : (i : ℕ) (o : Op) (j : ℕ) → Reads i o (Some j) → At c.setting (place i) o (place j)
-  at i o j reads = found i (slice_get runtime i) o (Some j) refl reads
+module _ (c : Image) (begun : Begins start c.final) where
+  in_built : Begins built_in.0 c.final
+  in_built = begins_later _ _ _ built_start begun
 
-  last : (i : ℕ) (o : Op) → Reads i o None → At c.setting (place i) o (next_word c.places None)
-  last i o reads = found i (slice_get runtime i) o None refl reads
+  in_same : Begins same_called.0 c.final
+  unfolding fixed_code built_in
+  in_same = begins_later _ _ _ (all_grow (built_in_codes fail_place compared.1) (built_ins_grow c compared.1) went_back.1 same_called.0) in_built
 
-  -- the operations stand one after the other
-  abbrev LineIn : List Op → (i j : ℕ) → Type 0
-  LineIn [] i j = i ≡ j
-  LineIn (o ∷ []) i j = Reads i o (Some j)
-  LineIn (o ∷ o' ∷ os) i j = Reads i o (Some (after i)) × LineIn (o' ∷ os) (after i) j
+  in_compared : Begins compared.0 c.final
+  unfolding same_called
+  in_compared = begins_later _ _ _ (g_one.at compared.1 compared.0) in_same
 
-  line : (os : List Op) (i j : ℕ) → LineIn os i j → Line c.setting os (place i) (place j)
-  line [] i j h = ap place h
-  line (o ∷ []) i j h = at i o j h
-  line (o ∷ o' ∷ os) i j h = (place (after i), at i o (after i) h.0, line (o' ∷ os) (after i) j h.1)
+  in_applied : Begins applied.0 c.final
+  unfolding compared
+  in_applied = begins_later _ _ _ ((made_compare c).grows.at went_back.1 applied.0) in_compared
+
+  in_executed : Begins executed.0 c.final
+  unfolding applied
+  in_executed = begins_later _ _ _ ((made_apply c called.1 executed.1).grows.at ended.1 executed.0) in_applied
+
+  in_called : Begins called.0 c.final
+  unfolding executed
+  in_called = begins_later _ _ _ ((made_exec c).grows.at 0 called.0) in_executed
+
+  in_back : Begins went_back.0 c.final
+  unfolding fixed_code called
+  in_back = begins_later _ _ _ ((made_call c).grows.at 0 went_back.0) in_called
+
+  in_failed : Begins failed.0 c.final
+  unfolding went_back
+  in_failed = begins_later _ _ _ ((made_back c).grows.at 0 failed.0) in_back
+
+  in_aborted : Begins aborted.0 c.final
+  unfolding failed
+  in_aborted = begins_later _ _ _ (all_grow (map fails_with failure_codes) (fails_grow c) aborted.1 aborted.0) in_failed
+
+  in_ended : Begins ended.0 c.final
+  unfolding aborted
+  in_ended = begins_later _ _ _ (put_begins (record { operation = 21; field = Number (negsuc 0); next = None }) ended.0) in_aborted
+
+  pub ends : At c.setting (place_word c.places end_place) (op.End (pos 1)) (next_word c.places None)
+  unfolding fixed_code ended
+  ends = put_stands c (record { operation = 21; field = Number (pos 1); next = None }) _ no_code refl in_ended
+
+  aborts : At c.setting (at c aborted.1) (op.End (negsuc 0)) (next_word c.places None)
+  unfolding aborted
+  aborts = put_stands c (record { operation = 21; field = Number (negsuc 0); next = None }) _ ended.0 refl in_aborted
+
+  -- the i-th failure, whose code is that
+  fails_at : (i code : ℕ) → slice_get (map fails_with failure_codes) i ≡ Some (fails_with code)
+      → FailAt c.setting code (at c (slice_index fixed_code.fails i))
+  unfolding fixed_code failed
+  fails_at i code is = record {
+    b = at c aborted.1;
+    k = next_word c.places None;
+    pushes =
+        each_stands c (map fails_with failure_codes) (fails_grow c) aborted.1 aborted.0 in_failed i is (pushes (Number (pos code)));
+    aborts = aborts;
+  }
 
   pub fails : (code : ℕ) → IsFailure code → FailAt c.setting code ((layout c).fail code)
-  unfolding runtime
   fails zero h = absurd (let no : false ≡ true = h in cc)
-  fails (suc zero) h = record { b = place 1; k = _; pushes = at 2 _ 1 refl; aborts = last 1 _ refl }
-  fails (suc (suc zero)) h = record { b = place 1; k = _; pushes = at 3 _ 1 refl; aborts = last 1 _ refl }
-  fails (suc (suc (suc zero))) h = record { b = place 1; k = _; pushes = at 4 _ 1 refl; aborts = last 1 _ refl }
-  fails (suc (suc (suc (suc zero)))) h = record { b = place 1; k = _; pushes = at 5 _ 1 refl; aborts = last 1 _ refl }
-  fails (suc (suc (suc (suc (suc zero))))) h = record { b = place 1; k = _; pushes = at 6 _ 1 refl; aborts = last 1 _ refl }
+  fails (suc zero) h = fails_at 0 1 refl
+  fails (suc (suc zero)) h = fails_at 1 2 refl
+  fails (suc (suc (suc zero))) h = fails_at 2 3 refl
+  fails (suc (suc (suc (suc zero)))) h = fails_at 3 4 refl
+  fails (suc (suc (suc (suc (suc zero))))) h = fails_at 4 5 refl
   fails (suc (suc (suc (suc (suc (suc zero)))))) h = absurd (let no : false ≡ true = h in cc)
-  fails (suc (suc (suc (suc (suc (suc (suc zero))))))) h = record { b = place 1; k = _; pushes = at 8 _ 1 refl; aborts = last 1 _ refl }
+  fails (suc (suc (suc (suc (suc (suc (suc zero))))))) h = fails_at 6 7 refl
   fails (suc (suc (suc (suc (suc (suc (suc (suc code)))))))) h =
       absurd (let no : false ≡ true = sym (no_failure (suc (suc (suc (suc (suc (suc (suc (suc code)))))))) (omega arith)) ∙ h in cc)
 
-  pub ends : At c.setting (place_word c.places 0) (op.End (pos 1)) (next_word c.places None)
-  unfolding runtime
-  ends = last 0 _ refl
-
-  back : BackAt c.setting (place 10)
-  unfolding runtime
-  back = (_, (_, at 10 _ 9 refl, last 9 _ refl))
+  goes_back : BackAt c.setting (at c went_back.1)
+  unfolding went_back
+  goes_back = (made_back c).stands 0 failed.0 in_back
 
   pub calls : CallAt c.setting (layout c)
-  unfolding runtime
-  calls = record {
-    b = place 13;
-    c = place 12;
-    k = _;
-    tests = line (op.Roll (negsuc 2) ∷ op.Roll (pos 2) ∷ op.Dup (pos 1) ∷ op.Typeq (Rom 14) ∷ []) 17 13 (refl, (refl, (refl, refl)));
-    chooses = at 13 _ 3 refl;
-    enters = (_, at 12 _ 11 refl, (_, at 11 _ 9 refl, last 9 _ refl));
-  }
+  unfolding fixed_code called
+  calls =
+      let s = (made_call c).stands 0 went_back.0 in_called in
+      record { b = s.0; c = s.1; k = s.2; tests = s.3; chooses = s.4; enters = s.5 }
 
   pub executes : ExecAt c.setting (layout c)
-  unfolding runtime
-  executes = record {
-    b = place 21;
-    block = place 20;
-    none = place 18;
-    j = place 9;
-    k = _;
-    tests = line (op.Roll (pos 2) ∷ op.Dup (pos 1) ∷ op.Typeq (Rom 15) ∷ []) 24 21 (refl, (refl, refl));
-    chooses = at 21 _ 18 refl;
-    enters = line (op.QuadTake (negsuc 2) ∷ op.Drop (pos 1) ∷ []) 20 9 (refl, refl);
-    skips = at 18 _ 9 refl;
-    jumps = last 9 _ refl;
-  }
+  unfolding fixed_code executed
+  executes =
+      let s = (made_exec c).stands 0 called.0 in_executed in
+      record { b = s.0; block = s.1; none = s.2; j = s.3; k = s.4; tests = s.5; chooses = s.6; enters = s.7; skips = s.8; jumps = s.9 }
 
   pub applies : ApplyAt c.setting (layout c)
-  unfolding runtime
-  applies = record {
-    b = place 26;
-    result = place 25;
-    ending = place 0;
-    k = _;
-    reads = line (op.My (pos 2) ∷ op.Msg (pos 0) ∷ []) 28 26 (refl, refl);
-    calls = at 26 _ 17 refl;
-    executes = at 25 _ 24 refl;
-    commits = last 0 _ refl;
-  }
+  unfolding fixed_code applied
+  applies =
+      let s = (made_apply c called.1 executed.1).stands ended.1 executed.0 in_applied in
+      record { b = s.0; result = s.2.0; ending = at c ended.1; k = next_word c.places None; reads = s.1; calls = s.2.1; executes = s.2.2; commits = ends }
 
   pub compares : SameAt c.setting (layout c)
-  unfolding runtime
-  compares = record {
-    state = place 63;
-    loop = place 61;
-    pairs = place 55;
-    leaf = place 48;
-    differ = place 33;
-    more = place 40;
-    tails = place 38;
-    yes = place 30;
-    no = place 32;
-    b = place 59;
-    c = place 58;
-    d = place 56;
-    e = place 46;
-    f = place 45;
-    g = place 43;
-    h = place 42;
-    i = place 41;
-    j = place 39;
-    k = place 10;
-    enters = at 64 _ 63 refl;
-    begins = line (op.Push (Rom 1) ∷ op.Roll (negsuc 2) ∷ []) 63 61 (refl, refl);
-    top = line (op.Dup (pos 1) ∷ op.Typeq (Rom 10) ∷ []) 61 59 (refl, refl);
-    top_chooses = at 59 _ 48 refl;
-    other = line (op.Pick (pos 2) ∷ op.Typeq (Rom 10) ∷ []) 58 56 (refl, refl);
-    other_chooses = at 56 _ 33 refl;
-    heads = line (op.Pair (pos 2) ∷ op.Dup (pos 1) ∷ op.Nth (pos 2) ∷ op.Nth (pos 1) ∷ op.Pick (pos 2) ∷ op.Nth (pos 1) ∷ op.Nth (pos 1) ∷ []) 55 61 (refl, (refl, (refl, (refl, (refl, (refl, refl))))));
-    function = line (op.Dup (pos 1) ∷ op.Typeq (Rom 14) ∷ []) 48 46 (refl, refl);
-    function_chooses = at 46 _ 45 refl;
-    block = line (op.Dup (pos 1) ∷ op.Typeq (Rom 15) ∷ []) 45 43 (refl, refl);
-    block_chooses = at 43 _ 42 refl;
-    compares = at 42 _ 41 refl;
-    same_chooses = at 41 _ 32 refl;
-    looks = at 40 _ 39 refl;
-    more_chooses = at 39 _ 30 refl;
-    takes = line (op.Part (pos 2) ∷ op.Nth (negsuc 0) ∷ op.Roll (pos 2) ∷ op.Nth (negsuc 0) ∷ op.Roll (pos 2) ∷ []) 38 61 (refl, (refl, (refl, (refl, refl))));
-    differs = at 33 _ 32 refl;
-    answers_yes = line (op.Drop (pos 1) ∷ op.Push (Rom 3) ∷ []) 30 10 (refl, refl);
-    answers_no = line (op.Drop (pos 1) ∷ op.Push (Rom 2) ∷ []) 32 10 (refl, refl);
-    back = back;
-  }
+  unfolding fixed_code same_called compared
+  compares =
+      let s = (made_compare c).stands went_back.1 applied.0 in_compared in
+      let turn = s.2.2 in
+      let pairs = turn.5 in
+      let leaves = turn.6 in
+      let more = leaves.12 in
+      record {
+        state = at c compared.1;
+        loop = s.0;
+        pairs = pairs.1;
+        leaf = turn.2;
+        differ = s.2.0;
+        more = leaves.5;
+        tails = more.1;
+        yes = more.2;
+        no = s.2.1;
+        b = turn.0;
+        c = turn.1;
+        d = pairs.0;
+        e = leaves.0;
+        f = leaves.1;
+        g = leaves.2;
+        h = leaves.3;
+        i = leaves.4;
+        j = more.0;
+        k = at c went_back.1;
+        enters = (rolls {c = c} (negsuc 2) refl).stands compared.1 compared.0 in_same;
+        begins = s.1;
+        top = turn.3;
+        top_chooses = turn.4;
+        other = pairs.2;
+        other_chooses = pairs.3;
+        heads = pairs.4;
+        function = leaves.6;
+        function_chooses = leaves.7;
+        block = leaves.8;
+        block_chooses = leaves.9;
+        compares = leaves.10;
+        same_chooses = leaves.11;
+        looks = more.3;
+        more_chooses = more.4;
+        takes = more.5;
+        differs = s.2.3;
+        answers_yes = more.6;
+        answers_no = s.2.4;
+        back = goes_back;
+      }
 
-  add : CalculatesAt c.setting (layout c) (op.Alu (pos 4)) (place 77)
-  unfolding runtime
-  add = (
-    place 71,
-    place 65,
-    place 10,
-    (place 74, place 73, line (op.Drop (pos 1) ∷ op.Dup (pos 1) ∷ op.Typeq (Rom 10) ∷ []) 77 74 (refl, (refl, refl)), at 74 _ 2 refl, line (op.Part (pos 1) ∷ op.Roll (pos 2) ∷ []) 73 71 (refl, refl)),
-    (place 69, place 68, place 66, line (op.Dup (pos 1) ∷ op.Typeq (Rom 5) ∷ []) 71 69 (refl, refl), at 69 _ 5 refl, line (op.Pick (pos 2) ∷ op.Typeq (Rom 5) ∷ []) 68 66 (refl, refl), at 66 _ 5 refl),
-    at 65 _ 10 refl,
-    back,
-  )
-
-  sub : CalculatesAt c.setting (layout c) (op.Alu (pos 5)) (place 90)
-  unfolding runtime
-  sub = (
-    place 84,
-    place 78,
-    place 10,
-    (place 87, place 86, line (op.Drop (pos 1) ∷ op.Dup (pos 1) ∷ op.Typeq (Rom 10) ∷ []) 90 87 (refl, (refl, refl)), at 87 _ 2 refl, line (op.Part (pos 1) ∷ op.Roll (pos 2) ∷ []) 86 84 (refl, refl)),
-    (place 82, place 81, place 79, line (op.Dup (pos 1) ∷ op.Typeq (Rom 5) ∷ []) 84 82 (refl, refl), at 82 _ 5 refl, line (op.Pick (pos 2) ∷ op.Typeq (Rom 5) ∷ []) 81 79 (refl, refl), at 79 _ 5 refl),
-    at 78 _ 10 refl,
-    back,
-  )
-
-  mul : CalculatesAt c.setting (layout c) (op.Alu (pos 6)) (place 103)
-  unfolding runtime
-  mul = (
-    place 97,
-    place 91,
-    place 10,
-    (place 100, place 99, line (op.Drop (pos 1) ∷ op.Dup (pos 1) ∷ op.Typeq (Rom 10) ∷ []) 103 100 (refl, (refl, refl)), at 100 _ 2 refl, line (op.Part (pos 1) ∷ op.Roll (pos 2) ∷ []) 99 97 (refl, refl)),
-    (place 95, place 94, place 92, line (op.Dup (pos 1) ∷ op.Typeq (Rom 5) ∷ []) 97 95 (refl, refl), at 95 _ 5 refl, line (op.Pick (pos 2) ∷ op.Typeq (Rom 5) ∷ []) 94 92 (refl, refl), at 92 _ 5 refl),
-    at 91 _ 10 refl,
-    back,
-  )
-
-  less : CalculatesAt c.setting (layout c) (op.Cmp (pos 3)) (place 137)
-  unfolding runtime
-  less = (
-    place 131,
-    place 125,
-    place 10,
-    (place 134, place 133, line (op.Drop (pos 1) ∷ op.Dup (pos 1) ∷ op.Typeq (Rom 10) ∷ []) 137 134 (refl, (refl, refl)), at 134 _ 2 refl, line (op.Part (pos 1) ∷ op.Roll (pos 2) ∷ []) 133 131 (refl, refl)),
-    (place 129, place 128, place 126, line (op.Dup (pos 1) ∷ op.Typeq (Rom 5) ∷ []) 131 129 (refl, refl), at 129 _ 5 refl, line (op.Pick (pos 2) ∷ op.Typeq (Rom 5) ∷ []) 128 126 (refl, refl), at 126 _ 5 refl),
-    at 125 _ 10 refl,
-    back,
-  )
-
-  less_equal : CalculatesAt c.setting (layout c) (op.Cmp (pos 4)) (place 150)
-  unfolding runtime
-  less_equal = (
-    place 144,
-    place 138,
-    place 10,
-    (place 147, place 146, line (op.Drop (pos 1) ∷ op.Dup (pos 1) ∷ op.Typeq (Rom 10) ∷ []) 150 147 (refl, (refl, refl)), at 147 _ 2 refl, line (op.Part (pos 1) ∷ op.Roll (pos 2) ∷ []) 146 144 (refl, refl)),
-    (place 142, place 141, place 139, line (op.Dup (pos 1) ∷ op.Typeq (Rom 5) ∷ []) 144 142 (refl, refl), at 142 _ 5 refl, line (op.Pick (pos 2) ∷ op.Typeq (Rom 5) ∷ []) 141 139 (refl, refl), at 139 _ 5 refl),
-    at 138 _ 10 refl,
-    back,
-  )
-
-  greater : CalculatesAt c.setting (layout c) (op.Cmp (pos 2)) (place 163)
-  unfolding runtime
-  greater = (
-    place 157,
-    place 151,
-    place 10,
-    (place 160, place 159, line (op.Drop (pos 1) ∷ op.Dup (pos 1) ∷ op.Typeq (Rom 10) ∷ []) 163 160 (refl, (refl, refl)), at 160 _ 2 refl, line (op.Part (pos 1) ∷ op.Roll (pos 2) ∷ []) 159 157 (refl, refl)),
-    (place 155, place 154, place 152, line (op.Dup (pos 1) ∷ op.Typeq (Rom 5) ∷ []) 157 155 (refl, refl), at 155 _ 5 refl, line (op.Pick (pos 2) ∷ op.Typeq (Rom 5) ∷ []) 154 152 (refl, refl), at 152 _ 5 refl),
-    at 151 _ 10 refl,
-    back,
-  )
-
-  greater_equal : CalculatesAt c.setting (layout c) (op.Cmp (pos 1)) (place 176)
-  unfolding runtime
-  greater_equal = (
-    place 170,
-    place 164,
-    place 10,
-    (place 173, place 172, line (op.Drop (pos 1) ∷ op.Dup (pos 1) ∷ op.Typeq (Rom 10) ∷ []) 176 173 (refl, (refl, refl)), at 173 _ 2 refl, line (op.Part (pos 1) ∷ op.Roll (pos 2) ∷ []) 172 170 (refl, refl)),
-    (place 168, place 167, place 165, line (op.Dup (pos 1) ∷ op.Typeq (Rom 5) ∷ []) 170 168 (refl, refl), at 168 _ 5 refl, line (op.Pick (pos 2) ∷ op.Typeq (Rom 5) ∷ []) 167 165 (refl, refl), at 165 _ 5 refl),
-    at 164 _ 10 refl,
-    back,
-  )
-
-  compare : CompareAt c.setting (layout c) (place 124)
-  unfolding runtime
-  compare = (
-    place 118,
-    place 112,
-    place 110,
-    place 105,
-    place 109,
-    place 108,
-    place 106,
-    place 107,
-    place 10,
-    (place 121, place 120, line (op.Drop (pos 1) ∷ op.Dup (pos 1) ∷ op.Typeq (Rom 10) ∷ []) 124 121 (refl, (refl, refl)), at 121 _ 2 refl, line (op.Part (pos 1) ∷ op.Roll (pos 2) ∷ []) 120 118 (refl, refl)),
-    (place 116, place 115, place 113, line (op.Dup (pos 1) ∷ op.Typeq (Rom 5) ∷ []) 118 116 (refl, refl), at 116 _ 5 refl, line (op.Pick (pos 2) ∷ op.Typeq (Rom 5) ∷ []) 115 113 (refl, refl), at 113 _ 5 refl),
-    line (op.Dup (pos 2) ∷ op.Cmp (pos 3) ∷ []) 112 110 (refl, refl),
-    at 110 _ 109 refl,
-    (place 10, line (op.Drop (pos 2) ∷ op.Push (Fix (negsuc 0)) ∷ []) 105 10 (refl, refl), back),
-    at 109 _ 108 refl,
-    at 108 _ 107 refl,
-    at 106 _ 10 refl,
-    at 107 _ 10 refl,
-    back,
-  )
-
-  both : AndAt c.setting (layout c) (place 203)
-  unfolding runtime
-  both = (
-    place 197,
-    place 191,
-    place 185,
-    place 10,
-    place 184,
-    (place 200, place 199, line (op.Drop (pos 1) ∷ op.Dup (pos 1) ∷ op.Typeq (Rom 10) ∷ []) 203 200 (refl, (refl, refl)), at 200 _ 2 refl, line (op.Part (pos 1) ∷ op.Roll (pos 2) ∷ []) 199 197 (refl, refl)),
-    (place 195, place 194, place 192, line (op.Pick (pos 2) ∷ op.Eq (Rom 3) ∷ []) 197 195 (refl, refl), at 195 _ 194 refl, line (op.Pick (pos 2) ∷ op.Eq (Rom 2) ∷ []) 194 192 (refl, refl), at 192 _ 6 refl),
-    (place 189, place 188, place 186, line (op.Pick (pos 1) ∷ op.Eq (Rom 3) ∷ []) 191 189 (refl, refl), at 189 _ 188 refl, line (op.Pick (pos 1) ∷ op.Eq (Rom 2) ∷ []) 188 186 (refl, refl), at 186 _ 6 refl),
-    at 185 _ 184 refl,
-    back,
-    (place 10, line (op.Drop (pos 1) ∷ op.Push (Rom 2) ∷ []) 184 10 (refl, refl), back),
-  )
-
-  either : OrAt c.setting (layout c) (place 224)
-  unfolding runtime
-  either = (
-    place 218,
-    place 212,
-    place 206,
-    place 205,
-    place 10,
-    (place 221, place 220, line (op.Drop (pos 1) ∷ op.Dup (pos 1) ∷ op.Typeq (Rom 10) ∷ []) 224 221 (refl, (refl, refl)), at 221 _ 2 refl, line (op.Part (pos 1) ∷ op.Roll (pos 2) ∷ []) 220 218 (refl, refl)),
-    (place 216, place 215, place 213, line (op.Pick (pos 2) ∷ op.Eq (Rom 3) ∷ []) 218 216 (refl, refl), at 216 _ 215 refl, line (op.Pick (pos 2) ∷ op.Eq (Rom 2) ∷ []) 215 213 (refl, refl), at 213 _ 6 refl),
-    (place 210, place 209, place 207, line (op.Pick (pos 1) ∷ op.Eq (Rom 3) ∷ []) 212 210 (refl, refl), at 210 _ 209 refl, line (op.Pick (pos 1) ∷ op.Eq (Rom 2) ∷ []) 209 207 (refl, refl), at 207 _ 6 refl),
-    at 206 _ 10 refl,
-    (place 10, line (op.Drop (pos 1) ∷ op.Push (Rom 3) ∷ []) 205 10 (refl, refl), back),
-    back,
-  )
-
-  negation : NotAt c.setting (layout c) (place 232)
-  unfolding runtime
-  negation = (
-    place 231,
-    place 225,
-    place 10,
-    at 232 _ 231 refl,
-    (place 229, place 228, place 226, line (op.Pick (pos 1) ∷ op.Eq (Rom 3) ∷ []) 231 229 (refl, refl), at 229 _ 228 refl, line (op.Pick (pos 1) ∷ op.Eq (Rom 2) ∷ []) 228 226 (refl, refl), at 226 _ 6 refl),
-    at 225 _ 10 refl,
-    back,
-  )
-
-  equal : PartsAt c.setting (layout c) (place 182) (place 63)
-  unfolding runtime
-  equal = (place 179, place 178, line (op.Drop (pos 1) ∷ op.Dup (pos 1) ∷ op.Typeq (Rom 10) ∷ []) 182 179 (refl, (refl, refl)), at 179 _ 2 refl, line (op.Part (pos 1) ∷ op.Roll (pos 2) ∷ []) 178 63 (refl, refl))
+  -- the built-in function of that number
+  built_in_at : (i : ℕ) {q : Piece} {S : W → W → Type 0} → slice_get (built_in_codes fail_place compared.1) i ≡ Some q → Makes c q S
+      → S (at c (slice_index routine_places i)) (at c went_back.1)
+  unfolding fixed_code built_in
+  built_in_at i is made =
+      each_stands c (built_in_codes fail_place compared.1) (built_ins_grow c compared.1) went_back.1 same_called.0 in_built i is made
 
   pub primitives : (b : BuiltIn) → PrimitiveAt c.setting (layout c) compares b ((layout c).routine b)
   unfolding compares
-  primitives Add = add
-  primitives Sub = sub
-  primitives Mul = mul
-  primitives Compare = compare
-  primitives Less = less
-  primitives LessEqual = less_equal
-  primitives Greater = greater
-  primitives GreaterEqual = greater_equal
-  primitives Equal = equal
-  primitives And = both
-  primitives Or = either
-  primitives Not = negation
+  primitives Add = built_in_at 0 refl (made_calculates c _ (alus c 4 refl)) goes_back
+  primitives Sub = built_in_at 1 refl (made_calculates c _ (alus c 5 refl)) goes_back
+  primitives Mul = built_in_at 2 refl (made_calculates c _ (alus c 6 refl)) goes_back
+  primitives Compare = built_in_at 3 refl (made_orders c) goes_back
+  primitives Less = built_in_at 4 refl (made_calculates c _ (cmps c 3 refl)) goes_back
+  primitives LessEqual = built_in_at 5 refl (made_calculates c _ (cmps c 4 refl)) goes_back
+  primitives Greater = built_in_at 6 refl (made_calculates c _ (cmps c 2 refl)) goes_back
+  primitives GreaterEqual = built_in_at 7 refl (made_calculates c _ (cmps c 1 refl)) goes_back
+  primitives Equal = built_in_at 8 refl (made_equal c compared.1)
+  primitives And = built_in_at 9 refl (made_both c) goes_back
+  primitives Or = built_in_at 10 refl (made_any c) goes_back
+  primitives Not = built_in_at 11 refl (made_negates c) goes_back

@@ -8,6 +8,8 @@ pub mod Makes
 pub mod DataCells
 pub mod Growths
 pub mod Fixed
+pub mod FixedPlaces
+pub mod RoutineTurns
 pub mod Nodes
 pub mod Walking
 pub mod ShapePlaces

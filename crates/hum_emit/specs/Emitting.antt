@@ -1,21 +1,18 @@
 -- What the emitter's state is, and the parts of code that its functions make.
-use Rattle.std.specs.Prelude.{ℕ, suc, pos, Bool, if◌then◌else◌, List, [], ◌∷◌, ◌++◌, map, Option, None}
+use Rattle.std.specs.Prelude.{ℕ, suc, pos, Bool, if◌then◌else◌, List, [], ◌∷◌, ◌++◌, Option, None}
 use Rattle.std.specs.Borrow.{Bor}
 use Rattle.std.specs.HashMap.{HashMap, get_by}
 use Rattle.std.specs.Str.{bytes_eq}
-use Rattle.hum_core.specs.declared.tested.TestExpr.{TestExpr}
-use Rattle.hum_core.specs.declared.tested.Test.{Test}
 use Rattle.hum_core.specs.declared.tested.TestArm.{TestArm, fold-TestArm}
 use Rattle.hum_core.specs.declared.tested.TestBranch.{TestBranch, fold-TestBranch}
-use Rattle.hum_code.specs.Layout.{Shape, with_singles}
+use Rattle.hum_code.specs.Layout.{Shape}
 use Rattle.hum_emit.specs.declared.emitter.Emitter.{Emitter}
 use Rattle.hum_emit.specs.declared.instruction.Datum.{Datum}
-use Rattle.hum_emit.specs.declared.instruction.Instruction.{Instruction}
 use Rattle.hum_core.specs.declared.tested.TestUnit.{TestUnit}
 use Rattle.hum_emit.specs.declared.instruction.Field.TheVariants.{Number, Constant, Data}
-use Rattle.hum_emit.specs.Emitted.{Emitted, Piece, nothing, ◌▷◌, dup, drop, roll, jump, nil, pair_type, with_symbol}
+use Rattle.hum_emit.specs.Emitted.{Emitted, Piece, nothing, ◌▷◌, dup, drop, roll, nil, pair_type, with_symbol}
 use Rattle.hum_core.specs.declared.tested.TestStmt.{TestStmt}
-use Rattle.hum_emit.specs.Templates.{OfTest, OfExpr, OfArm, OfBranch, of_test, of_expr, of_arm, of_branch, expr_code, test_code, after_all, matching, restore, statement, shape_after, unit_code}
+use Rattle.hum_emit.specs.Templates.{OfTest, OfExpr, OfArm, OfBranch, of_test, of_expr, of_arm, of_branch, restore, statement, shape_after, unit_code}
 
 -- the number that a map has for a name
 abbrev pub number_in : {S : Type 0} → HashMap (Bor (List ℕ)) ℕ S → List ℕ → Option ℕ
@@ -24,10 +21,6 @@ number_in numbers name = get_by (λ key. bytes_eq name key.now) numbers
 -- what is emitted so far
 unfoldable pub emitted : Emitter → Emitted
 emitted e = record { code = e.code.items; cells = e.cells.items; symbols = number_in e.symbols }
-
--- that code, and no data
-abbrev pub only_code : List Instruction → Emitted
-only_code code = record { code = code; cells = []; symbols = λ name. None }
 
 -- with further data
 abbrev pub with_cells : (more : List Datum) → Emitted → Emitted

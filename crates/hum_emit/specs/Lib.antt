@@ -1,7 +1,7 @@
 pub mod Emitted
 pub mod Program
+pub mod Routines
 pub mod Runtime
-pub mod Rows
 pub mod Templates
 pub mod Holds
 pub mod Module

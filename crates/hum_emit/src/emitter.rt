@@ -2,11 +2,13 @@
 // go on with, and gives the number of its own first one. There are fewer than 2^32 instructions, and so many data: one more is refused as
 // want of memory.
 
-ghost use Rattle.std.specs.Prelude.{◌≡◌, ℕ, pos, ◌∷◌, [], length, IfOk, OnOk};
+ghost use Rattle.std.specs.Prelude.{◌≡◌, ◌≤◌, pos, negsuc, ◌∷◌, [], length, take, IfOk, OnOk};
 ghost use Rattle.hum_code.specs.Layout.{minus};
 ghost use Rattle.hum_emit.specs.declared.instruction.Field.TheVariants as field;
 ghost use Rattle.hum_emit.specs.Emitted as spec;
-ghost use Rattle.hum_emit.specs.Emitting.{emitted, with_cells, named, only_code};
+ghost use Rattle.hum_emit.specs.Emitting.{emitted, with_cells, named};
+ghost use Rattle.hum_emit.specs.Routines as words;
+ghost use Rattle.hum_emit.specs.Runtime.{no_code};
 
 use crate::instruction::{Datum, Field, Instruction};
 use crate::operations;
@@ -26,6 +28,8 @@ pub const FALSE: Field = Field::Constant(2);
 pub const TRUE: Field = Field::Constant(3);
 
 // The numbers of the constants that are types.
+
+pub const FIXNUM_TYPE: u32 = 5;
 
 pub const ACTOR_TYPE: u32 = 6;
 
@@ -76,12 +80,12 @@ fn minus(count: usize) -> Result<Field, NoMemory>
 }
 
 impl<'a> Emitter<'a> {
-    /// Begins with that code.
-    pub fn start(alloc: Global, code: Vec<Instruction>) -> Emitter<'a>
-        ensures { emitted result ≡ only_code code.items }
+    /// Begins with no code.
+    pub fn new(alloc: Global) -> Emitter<'a>
+        ensures { emitted result ≡ no_code }
     {
         Emitter {
-            code,
+            code: Vec::new(alloc),
             cells: Vec::new(alloc),
             symbols: HashMap::new(alloc),
         }
@@ -94,6 +98,23 @@ impl<'a> Emitter<'a> {
         ensures cells { result.1.items ≡ (emitted self.entry).cells }
     {
         (self.code, self.cells)
+    }
+
+    /// How many instructions there are.
+    #[tactic(auto, unfolding(crate::specs::Emitting::emitted))]
+    pub fn count(&self) -> usize
+        ensures { result ≡ length (emitted self.now).code }
+    {
+        self.code.len()
+    }
+
+    /// Takes back the instructions behind so many.
+    #[tactic(auto, unfolding(crate::specs::Emitting::emitted))]
+    pub fn rewind(&mut self, count: usize)
+        requires { count ≤ length (emitted self.old).code }
+        ensures { emitted self.new ≡ record (emitted self.old) { code = take count (emitted self.old).code } }
+    {
+        self.code.truncate(count);
     }
 
     /// One instruction.
@@ -125,6 +146,28 @@ impl<'a> Emitter<'a> {
             operation: operations::IF,
             field: Field::Place(k),
             next: Some(miss),
+        })
+    }
+
+    /// Goes to `hit` where the value on top is true, and else on with what comes next.
+    pub fn unless(&mut self, hit: u32, k: u32) -> Result<u32, NoMemory>
+        ensures { IfOk result (λ at. (emitted self.new, at) ≡ words.unless hit k (emitted self.old)) }
+    {
+        self.put(Instruction {
+            operation: operations::IF,
+            field: Field::Place(hit),
+            next: Some(k),
+        })
+    }
+
+    /// Ends an event: it commits where the number is 1, and fails with the number on top where it is -1.
+    pub fn ends(&mut self, n: i32) -> Result<u32, NoMemory>
+        ensures { IfOk result (λ at. (emitted self.new, at) ≡ words.ends n 0 (emitted self.old)) }
+    {
+        self.put(Instruction {
+            operation: operations::END,
+            field: Field::Number(n),
+            next: None,
         })
     }
 
@@ -206,6 +249,13 @@ impl<'a> Emitter<'a> {
         self.one(operations::ROLL, operand(n)?, k)
     }
 
+    /// The item on top goes down below others.
+    pub fn roll_down(&mut self, n: usize, k: u32) -> Result<u32, NoMemory>
+        ensures { IfOk result (λ at. (emitted self.new, at) ≡ spec.roll (minus n) k (emitted self.old)) }
+    {
+        self.one(operations::ROLL, minus(n)?, k)
+    }
+
     /// Reads the `n`-th item of a list.
     pub fn nth(&mut self, n: usize, k: u32) -> Result<u32, NoMemory>
         ensures { IfOk result (λ at. (emitted self.new, at) ≡ spec.nth (pos n) k (emitted self.old)) }
@@ -227,6 +277,13 @@ impl<'a> Emitter<'a> {
         self.one(operations::QUAD, Field::Number(3), k)
     }
 
+    /// The two words of such a cell.
+    pub fn quad_take(&mut self, k: u32) -> Result<u32, NoMemory>
+        ensures { IfOk result (λ at. (emitted self.new, at) ≡ spec.quad (negsuc 2) k (emitted self.old)) }
+    {
+        self.one(operations::QUAD, Field::Number(-3), k)
+    }
+
     /// Tests whether the value on top is of the type that the constant of that number is.
     pub fn typeq(&mut self, constant: u32, k: u32) -> Result<u32, NoMemory>
         ensures { IfOk result (λ at. (emitted self.new, at) ≡ spec.typeq constant k (emitted self.old)) }
@@ -239,6 +296,32 @@ impl<'a> Emitter<'a> {
         ensures { IfOk result (λ at. (emitted self.new, at) ≡ spec.eq word k (emitted self.old)) }
     {
         self.one(operations::EQ, word, k)
+    }
+
+    pub fn cmp(&mut self, n: usize, k: u32) -> Result<u32, NoMemory>
+        ensures { IfOk result (λ at. (emitted self.new, at) ≡ words.cmp n k (emitted self.old)) }
+    {
+        self.one(operations::CMP, operand(n)?, k)
+    }
+
+    pub fn alu(&mut self, n: usize, k: u32) -> Result<u32, NoMemory>
+        ensures { IfOk result (λ at. (emitted self.new, at) ≡ words.alu n k (emitted self.old)) }
+    {
+        self.one(operations::ALU, operand(n)?, k)
+    }
+
+    /// The event's message.
+    pub fn message(&mut self, k: u32) -> Result<u32, NoMemory>
+        ensures { IfOk result (λ at. (emitted self.new, at) ≡ words.message k (emitted self.old)) }
+    {
+        self.one(operations::MSG, Field::Number(0), k)
+    }
+
+    /// The behaviour of the event's actor.
+    pub fn my_state(&mut self, k: u32) -> Result<u32, NoMemory>
+        ensures { IfOk result (λ at. (emitted self.new, at) ≡ words.my_state k (emitted self.old)) }
+    {
+        self.one(operations::MY, Field::Number(2), k)
     }
 
     /// Reads the event's own actor.

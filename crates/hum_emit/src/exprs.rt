@@ -11,7 +11,7 @@ ghost use Rattle.hum_emit.specs.Shaping.{shape_in};
 use crate::data::{constant, text};
 use crate::emitter::{Emitter, FALSE, NIL, PAIR_TYPE, TRUE};
 use crate::instruction::Field;
-use crate::routines::{APPLY, CALL, NO_MATCH, NO_TRUTH, SAME};
+use crate::routines::{NO_MATCH, NO_TRUTH};
 use crate::scope::{Scope, block, function, variable};
 use hum_core::{Const, Test, TestArm, TestBranch, TestExpr};
 use std::alloc::AllocError as NoMemory;
@@ -45,7 +45,7 @@ pub fn expr<'a>(
         TestExpr::Abs(unit) => function(out, *unit, k),
         TestExpr::Block(unit) => block(out, *unit, k),
         TestExpr::Call(callee, argument) => {
-            let k = out.calls(CALL, k)?;
+            let k = out.calls(scope.routines.call, k)?;
             let k = operand(out, scope, argument.get(), k)?;
             let k = out.roll(2, k)?;
             let k = operand(out, scope, callee.get(), k)?;
@@ -54,7 +54,7 @@ pub fn expr<'a>(
         TestExpr::Tuple(items) => tuple(out, scope, items.as_slice(), k),
         TestExpr::New(behaviour) => {
             let k = out.actor_create(k)?;
-            let k = out.push(Field::Place(APPLY), k)?;
+            let k = out.push(Field::Place(scope.routines.apply), k)?;
             let k = expr(out, scope, behaviour.get(), k)?;
             out.debug(k)
         }
@@ -86,7 +86,7 @@ fn operand<'a>(
 {
     match e {
         TestExpr::Call(callee, argument) => {
-            let k = out.calls(CALL, k)?;
+            let k = out.calls(scope.routines.call, k)?;
             let k = operand(out, scope, argument.get(), k)?;
             let k = out.roll(2, k)?;
             let k = operand(out, scope, callee.get(), k)?;
@@ -165,7 +165,7 @@ fn branch<'a>(
 {
     let yes = block(out, branch.block, k)?;
     let yes = out.drop(1, yes)?;
-    let no = out.choose(NO_TRUTH, other)?;
+    let no = out.choose(scope.routines.fail(NO_TRUTH), other)?;
     let no = out.eq(FALSE, no)?;
     let k = out.choose(no, yes)?;
     let k = out.eq(TRUE, k)?;
@@ -197,9 +197,9 @@ fn arms<'a>(
     let count = arms.len();
     match arms {
         [] => Ok(k),
-        [only] => arm(out, scope, only, NO_MATCH, k),
+        [only] => arm(out, scope, only, scope.routines.fail(NO_MATCH), k),
         [first, .., last] => {
-            let mut at = arm(out, scope, last, NO_MATCH, k)?;
+            let mut at = arm(out, scope, last, scope.routines.fail(NO_MATCH), k)?;
             at = last_begins(out, at)?;
             for i in 2..count {
                 at = arm(out, scope, &arms[count - i], at, k)?;
@@ -342,7 +342,7 @@ fn test<'a>(
         Test::Same(e) => {
             let k = out.tail(1, k)?;
             let k = out.choose(miss, k)?;
-            let k = out.calls(SAME, k)?;
+            let k = out.calls(scope.routines.same, k)?;
             let k = expr(out, scope, e, k)?;
             let k = out.tail(n, k)?;
             let k = out.pick(3, k)?;
@@ -400,7 +400,7 @@ pub fn matching<'a>(
     ensures { IfOk result (λ at. (emitted out.new, at) ≡ spec.matching (map spec.test_code pattern.now) (shape_in scope.now) k (emitted out.old)) }
 {
     let k = out.drop(1, k)?;
-    let k = tests(out, scope, pattern, NO_MATCH, k)?;
+    let k = tests(out, scope, pattern, scope.routines.fail(NO_MATCH), k)?;
     let k = out.pair(1, k)?;
     let k = out.roll(2, k)?;
     out.push(NIL, k)

@@ -7,9 +7,9 @@ ghost use Rattle.cap_words.specs.Text.{is_name};
 ghost use Rattle.uasm_read.specs.Modules.{is_module};
 ghost use Rattle.hum_emit.specs.Made.{Made};
 ghost use Rattle.hum_emit.specs.Module as spec;
+ghost use Rattle.hum_emit.specs.Runtime.{apply_place};
 
 use crate::instruction::{Datum, Field, Instruction};
-use crate::routines::APPLY;
 use cap_words::Name;
 use itoa::Buffer;
 use std::alloc::{AllocError as NoMemory, Global};
@@ -154,13 +154,22 @@ fn add_fixed_label(
     Ok(())
 }
 
-fn labels_of(alloc: Global, size: usize, i: u32, k: u32, entries: &[u32]) -> Result<Names, NoMemory>
+// The labels of instruction i, where the routine that applies behaviours begins at `apply`.
+fn labels_of(
+    alloc: Global,
+    apply: u32,
+    size: usize,
+    i: u32,
+    k: u32,
+    entries: &[u32],
+) -> Result<Names, NoMemory>
+    requires { apply ≡ apply_place }
     ensures { IfOk result (λ names. names ≡ spec.labels_of size i k entries.now) }
 {
     let mut labels = Vec::new(alloc);
     labels.push(code_label(alloc, i)?)?;
     add_unit_label(alloc, &mut labels, begins(entries, i), k)?;
-    add_fixed_label(alloc, &mut labels, i == APPLY, b"apply")?;
+    add_fixed_label(alloc, &mut labels, i == apply, b"apply")?;
     add_fixed_label(alloc, &mut labels, i as usize + 1 == size, b"boot")?;
     Ok(Names::from_vec(labels))
 }
@@ -174,10 +183,12 @@ fn next_unit(k: u32, begun: bool) -> u32
 
 fn add_code_items(
     alloc: Global,
+    apply: u32,
     items: &mut Vec<Item>,
     code: &[Instruction],
     entries: &[u32],
 ) -> Result<(), NoMemory>
+    requires applies { apply ≡ apply_place }
     requires few { length code.now < 2 ^ 32 }
     requires operations { All (λ x. x.operation < 2 ^ 30) code.now }
     ensures { OnOk result (items.new.items ≡ items.old.items ++ spec.code_items (length code.now) (reverse code.now) 0 entries.now) }
@@ -187,7 +198,7 @@ fn add_code_items(
     let mut rest = code;
     while let [more @ .., x] = rest {
         let i = more.len() as u32;
-        let labels = labels_of(alloc, code.len(), i, k, later)?;
+        let labels = labels_of(alloc, apply, code.len(), i, k, later)?;
         items.push(item(alloc, labels, x)?)?;
         let begun = begins(later, i);
         k = next_unit(k, begun);
@@ -211,20 +222,22 @@ fn add_datum_items(alloc: Global, items: &mut Vec<Item>, cells: &[Datum]) -> Res
     Ok(())
 }
 
-/// The module of what was emitted: instructions, data, and the numbers of the units' first instructions. Errors: `NoMemory` where no
+/// The module of what was emitted: where behaviours are applied, instructions, data, and the numbers of the units' first instructions. Errors: `NoMemory` where no
 /// memory can be had. What was emitted stays as it was.
 #[tactic(auto, using(crate::proofs::Modules::module_made))]
 pub fn module_of(
     alloc: Global,
+    apply: u32,
     code: &[Instruction],
     cells: &[Datum],
     entries: &[u32],
 ) -> Result<Module, NoMemory>
-    requires { Made code.now cells.now entries.now }
+    requires applies { apply ≡ apply_place }
+    requires made { Made code.now cells.now entries.now }
     ensures { IfOk result (λ made. made ≡ spec.module_from code.now cells.now entries.now) }
 {
     let mut items = Vec::new(alloc);
-    add_code_items(alloc, &mut items, code, entries)?;
+    add_code_items(alloc, apply, &mut items, code, entries)?;
     add_datum_items(alloc, &mut items, cells)?;
     let mut exports = Vec::new(alloc);
     exports.push(fixed_name(alloc, b"boot")?)?;

@@ -22,14 +22,22 @@ pub const TYPEQ: u32 = 11;
 
 pub const EQ: u32 = 12;
 
+pub const CMP: u32 = 13;
+
+pub const ALU: u32 = 14;
+
 pub const IF: u32 = 15;
 
 pub const JUMP: u32 = 16;
+
+pub const MSG: u32 = 17;
 
 pub const STATE: u32 = 18;
 
 pub const MY: u32 = 19;
 
 pub const ACTOR: u32 = 20;
+
+pub const END: u32 = 21;
 
 pub const DEBUG: u32 = 26;

@@ -10,13 +10,15 @@ ghost use Rattle.hum_emit.specs.Shaping.{kind_of, shape_in};
 
 use crate::emitter::{BLOCK_TYPE, Emitter, FUNCTION_TYPE};
 use crate::instruction::Field;
+use crate::routines::Routines;
 use crate::shape::Entry;
 use hum_core::Slot;
 use std::alloc::AllocError as NoMemory;
 
-/// The entries of a statement's place, the oldest first, and so many bindings in front of them.
+/// What code can name at a place: the fixed code, the entries of the statement's place, the oldest first, and so many bindings in front of them.
 #[derive(Clone, Copy)]
 pub struct Scope<'s, 'a> {
+    pub routines: &'s Routines,
     pub entries: &'s [Entry<'a>],
     pub inner: usize,
 }
@@ -31,6 +33,7 @@ impl<'s, 'a> Scope<'s, 'a> {
             return Err(NoMemory);
         }
         Ok(Scope {
+            routines: self.routines,
             entries: self.entries,
             inner: self.inner + count,
         })

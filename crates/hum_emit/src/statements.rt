@@ -11,7 +11,7 @@ ghost use Rattle.hum_emit.specs.Shaping.{shape_in};
 use crate::emitter::{ACTOR_TYPE, Emitter, UNDEF};
 use crate::exprs::{bindings, expr, matching};
 use crate::instruction::Field;
-use crate::routines::{APPLY, EXEC, NO_ACTOR, THROWN};
+use crate::routines::{NO_ACTOR, Routines, THROWN};
 use crate::scope::Scope;
 use crate::shape::{Entry, Shape};
 use hum_core::{Test, TestExpr, TestStmt, TestUnit};
@@ -51,7 +51,7 @@ fn statement<'a>(
         TestStmt::Defined => out.debug(k),
         TestStmt::Send(message, target) => {
             let k = out.actor_send(k)?;
-            let k = out.choose(NO_ACTOR, k)?;
+            let k = out.choose(scope.routines.fail(NO_ACTOR), k)?;
             let k = out.typeq(ACTOR_TYPE, k)?;
             let k = out.dup(1, k)?;
             let k = expr(out, scope, target, k)?;
@@ -61,17 +61,17 @@ fn statement<'a>(
         TestStmt::Create(behaviour) => {
             let k = out.pair(1, k)?;
             let k = out.actor_create(k)?;
-            let k = out.push(Field::Place(APPLY), k)?;
+            let k = out.push(Field::Place(scope.routines.apply), k)?;
             beside(out, scope, behaviour, k)
         }
         TestStmt::Become(behaviour) => {
             let k = out.actor_become(k)?;
-            let k = out.push(Field::Place(APPLY), k)?;
+            let k = out.push(Field::Place(scope.routines.apply), k)?;
             beside(out, scope, behaviour, k)
         }
-        TestStmt::Throw(value) => beside(out, scope, value, THROWN),
+        TestStmt::Throw(value) => beside(out, scope, value, scope.routines.fail(THROWN)),
         TestStmt::Do(value) => {
-            let k = out.calls(EXEC, k)?;
+            let k = out.calls(scope.routines.exec, k)?;
             beside(out, scope, value, k)
         }
     }
@@ -113,6 +113,7 @@ fn extend<'a>(shape: &mut Shape<'a>, s: &'a TestStmt) -> Result<(), NoMemory>
 // A block's statements, at whose end it goes back.
 fn statements<'a>(
     out: &mut Emitter<'a>,
+    routines: &Routines,
     shape: &mut Shape<'a>,
     statements: &'a [TestStmt],
 ) -> Result<u32, NoMemory>
@@ -127,7 +128,7 @@ fn statements<'a>(
     for i in 0..count {
         let each = &statements[count - 1 - i];
         shape.truncate(shape.len() - added(each));
-        at = statement(out, &shape.scope(), each, at)?;
+        at = statement(out, &shape.scope(routines), each, at)?;
     }
     Ok(at)
 }
@@ -151,13 +152,16 @@ fn function<'a>(
 /// A unit in its shape.
 pub fn unit<'a>(
     out: &mut Emitter<'a>,
+    routines: &Routines,
     shape: &mut Shape<'a>,
     unit: &'a TestUnit,
 ) -> Result<u32, NoMemory>
     ensures { IfOk result (λ at. (emitted out.new, at) ≡ spec.unit_code unit.now shape.old 0 (emitted out.old)) }
 {
     match unit {
-        TestUnit::Abs(pattern, value) => function(out, &shape.scope(), pattern.as_slice(), value),
-        TestUnit::Block(block) => statements(out, shape, block.as_slice()),
+        TestUnit::Abs(pattern, value) => {
+            function(out, &shape.scope(routines), pattern.as_slice(), value)
+        },
+        TestUnit::Block(block) => statements(out, routines, shape, block.as_slice()),
     }
 }

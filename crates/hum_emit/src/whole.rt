@@ -5,14 +5,15 @@ ghost use Rattle.hum_emit.specs.Compiled.{compiled, compiled_module};
 ghost use Rattle.hum_emit.specs.Emitting.{emitted, with_cells};
 ghost use Rattle.hum_emit.specs.Program as spec;
 ghost use Rattle.hum_emit.specs.Rowing.{shape_at};
-ghost use Rattle.hum_emit.specs.Runtime.{routine_places};
+ghost use Rattle.hum_emit.specs.Runtime.{apply_place, routine_places};
 ghost use Rattle.hum_emit.specs.Shapes as shaped;
 ghost use Rattle.hum_emit.specs.Templates.{push_data, boot_code, units_code};
 
-use crate::emitter::{Emitter, FUNCTION_TYPE, NIL};
+use crate::emitter::{Emitter, FUNCTION_TYPE, operand};
 use crate::instruction::{Datum, Field, Instruction};
 use crate::module::module_of;
-use crate::routines::{END, ROUTINES, runtime};
+use crate::routines::Routines;
+use crate::runtime::fixed_code;
 use crate::shape::Shape;
 use crate::shapes::{Shapes, shapes_of};
 use crate::statements::unit;
@@ -20,9 +21,10 @@ use hum_core::{Program, TestUnit};
 use std::alloc::{AllocError as NoMemory, Global};
 use uasm_read::Module;
 
-/// What is emitted of a program, and the numbers of its units' first instructions.
+/// What is emitted of a program, the number of the instruction that applies behaviours, and those of its units' first instructions.
 #[derive(Drop)]
 struct Emission {
+    apply: u32,
     code: Vec<Instruction>,
     cells: Vec<Datum>,
     entries: Vec<u32>,
@@ -32,6 +34,7 @@ struct Emission {
 fn units<'a>(
     alloc: Global,
     out: &mut Emitter<'a>,
+    routines: &Routines,
     shapes: &Shapes<'a>,
     units: &'a [TestUnit],
 ) -> Result<Vec<u32>, NoMemory>
@@ -43,21 +46,22 @@ fn units<'a>(
     let mut shape = Shape::new(alloc);
     for i in 0..count {
         shapes.fill(alloc, count - 1 - i, &mut shape)?;
-        entries.push(unit(out, &mut shape, &units[count - 1 - i])?)?;
+        entries.push(unit(out, routines, &mut shape, &units[count - 1 - i])?)?;
     }
     entries.reverse();
     Ok(entries)
 }
 
 // The cells of the built-in functions.
-fn routine_cells(out: &mut Emitter<'_>) -> Result<(), NoMemory>
+fn routine_cells(out: &mut Emitter<'_>, routines: &Routines) -> Result<(), NoMemory>
     ensures { OnOk result (emitted out.new ≡ with_cells (spec.routine_cells 0 routine_places) (emitted out.old)) }
 {
     for i in 0..12 {
+        let number = operand(i)?;
         out.datum(Datum {
             kind: FUNCTION_TYPE,
-            first: Field::Place(ROUTINES[i]),
-            second: Field::Number(i as i32),
+            first: Field::Place(routines.built_ins[i]),
+            second: number,
         })?;
     }
     Ok(())
@@ -75,7 +79,7 @@ fn functions(out: &mut Emitter<'_>, k: u32) -> Result<u32, NoMemory>
 }
 
 // The code of the first event: the outermost environment is put on the stack, and unit 0 runs in it.
-fn boot(out: &mut Emitter<'_>, k: u32) -> Result<u32, NoMemory>
+fn boot(out: &mut Emitter<'_>, routines: &Routines, k: u32) -> Result<u32, NoMemory>
     ensures { IfOk result (λ at. (emitted out.new, at) ≡ boot_code k (emitted out.old)) }
 {
     let k = out.pair(14, k)?;
@@ -83,7 +87,7 @@ fn boot(out: &mut Emitter<'_>, k: u32) -> Result<u32, NoMemory>
     let k = out.state(1, k)?;
     let k = functions(out, k)?;
     let k = out.push(NIL, k)?;
-    out.push(Field::Place(END), k)
+    out.push(Field::Place(routines.end), k)
 }
 
 // The first instruction of unit 0.
@@ -98,17 +102,19 @@ fn first_of(entries: &[u32]) -> u32
 
 // The emission of a program.
 fn emission_of(alloc: Global, program: &[TestUnit]) -> Result<Emission, NoMemory>
+    ensures apply { IfOk result (λ made. made.apply ≡ apply_place) }
     ensures code { IfOk result (λ made. made.code.items ≡ (compiled program.now).0.code) }
     ensures cells { IfOk result (λ made. made.cells.items ≡ (compiled program.now).0.cells) }
     ensures entries { IfOk result (λ made. made.entries.items ≡ (compiled program.now).1) }
 {
-    let mut out = Emitter::start(alloc, runtime(alloc)?);
-    routine_cells(&mut out)?;
+    let (mut out, routines) = fixed_code(alloc)?;
+    routine_cells(&mut out, &routines)?;
     let shapes = shapes_of(alloc, program)?;
-    let entries = units(alloc, &mut out, &shapes, program)?;
-    boot(&mut out, first_of(entries.as_slice()))?;
+    let entries = units(alloc, &mut out, &routines, &shapes, program)?;
+    boot(&mut out, &routines, first_of(entries.as_slice()))?;
     let (code, cells) = out.parts();
     Ok(Emission {
+        apply: routines.apply,
         code,
         cells,
         entries,
@@ -136,5 +142,11 @@ pub fn emit(alloc: Global, program: &Program) -> Result<Module, NoMemory>
     let cells = emission.cells.as_slice();
     few(code.len())?;
     few(cells.len())?;
-    module_of(alloc, code, cells, emission.entries.as_slice())
+    module_of(
+        alloc,
+        emission.apply,
+        code,
+        cells,
+        emission.entries.as_slice(),
+    )
 }

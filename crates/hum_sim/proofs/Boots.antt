@@ -1,4 +1,5 @@
 -- The state at boot stands for the opening configuration.
+use Rattle.instr_table.specs.Spent.{unspent}
 use Rattle.std.proofs.Common.{inl, inr, refl, ℕ, zero, suc, ◌≤◌, [], ◌∷◌, arith}
 use Rattle.std.specs.Prelude.{pos}
 use Rattle.std.proofs.lemmas.Option.{none-some}
@@ -19,8 +20,7 @@ use Rattle.hum_core.specs.Openings.{opening}
 use Rattle.hum_code.specs.Layout.{Layout}
 use Rattle.hum_code.specs.Stands.{Stands}
 use Rattle.hum_code.specs.Opening.{Devices}
-use Rattle.instr_table.specs.Spent.{unspent}
-use Rattle.hum_sim.specs.Program.{IsProgram}
+use Rattle.hum_code.specs.Program.{HoldsProgram}
 use Rattle.hum_sim.specs.Standing.{StateStands}
 use Rattle.hum_sim.proofs.Lanes.{both_once}
 
@@ -50,7 +50,7 @@ boot_once w = both_once (first_actor ∷ []) (println_device ∷ say_device ∷ 
     first v (inl d) (inr (inr e)) = absurd e
     first v (inr d) e = absurd d
 
-module _ (lay : Layout) (image : RomImage) (program : IsProgram image lay) (grant : Amounts) (lanes : ℕ) where
+module _ (lay : Layout) (image : RomImage) (program : HoldsProgram image.boot image.cells lay) (grant : Amounts) (lanes : ℕ) where
   abbrev s : State
   s = booted image grant lanes
 
@@ -74,23 +74,27 @@ module _ (lay : Layout) (image : RomImage) (program : IsProgram image lay) (gran
   pub boot_stands : StateStands lay image.cells (λ n. unspent) s opening
   boot_stands = record {
     rom_is = refl;
-    actors = (
-      record { code = image.boot; state = Ram 5; mark = undef; there = refl; idle = λ e. refl; behaves = (refl, inr (refl, program.boot, boot_devices, refl)) },
+    code_out = boot_code_out image grant lanes;
+    behaviours = record {
+     actors = (
+      record { code = image.boot; state = Ram 5; mark = undef; there = refl; idle = λ e. refl; behaves = (refl, inr (refl, program.boot_is, boot_devices, refl)) },
       (
         record { code = Fix (pos 0); state = undef; mark = undef; there = refl; idle = λ e. refl; behaves = (refl, refl) },
         (record { code = Fix (pos 1); state = undef; mark = undef; there = refl; idle = λ e. refl; behaves = (refl, refl) }, tt),
       ),
     );
-    once = boot_once;
-    front = ([], refl);
+     once = boot_once;
+     front = ([], refl);
+    };
     messages = (record { number = refl; target = first_actor; content = nil; there = refl; target_is = refl; value = boot_nil }, tt);
     next_number = refl;
     output = refl;
-    flight = tt;
-    events = boot-flight image grant lanes;
-    targets = λ i j k l a b e. absurd (none-some k a);
+    flight = record {
+      events = tt;
+      sound = boot-flight image grant lanes;
+      targets = λ i j k l a b e. absurd (none-some k a);
+      room = omega arith;
+      in_turn = λ one. tt;
+    };
     root = record { account = root_account root grant; only = refl; is_root = refl; no_signal = refl; runs = λ e. refl };
-    code_out = boot_code_out image grant lanes;
-    room = omega arith;
-    in_turn = λ one. tt;
   }

@@ -1,4 +1,6 @@
 -- What an event in flight has spent is within the bound of its delivery.
+use Rattle.instr_table.specs.Spent.{Spent, spent_more}
+use Rattle.vm_turn.specs.Spending.{Spending}
 use Rattle.std.proofs.Common.{◌≡◌, ap, sym, ◌∙◌, ℕ, ◌+◌, ◌≤◌, length, Option, Some, slice_get, arith}
 use Rattle.std.specs.Prelude.{◌-◌, option_map}
 use Rattle.std.proofs.lemmas.Option.{none-some, same_Some}
@@ -15,12 +17,10 @@ use Rattle.hum_core.specs.TestLists.{Tests, tests_language}
 use Rattle.hum_core.specs.Bound.{Cost, cost_of, bound}
 use Rattle.hum_core.specs.Bound as bounds
 use Rattle.hum_code.specs.Layout.{Layout}
-use Rattle.instr_table.specs.Spent.{Spent, spent_more}
 use Rattle.hum_code.specs.Ending.{DeliveryOutcome, sends_of, IsWithin}
-use Rattle.hum_sim.specs.Program.{IsProgram}
-use Rattle.hum_sim.specs.Spent.{Spending}
+use Rattle.hum_code.specs.Program.{HoldsProgram}
 use Rattle.hum_sim.specs.Standing.{LaneStands, StateStands}
-use Rattle.hum_sim.specs.Legal.{SpentWithin}
+use Rattle.hum_sim.specs.Within.{SpentWithin}
 use Rattle.hum_sim.proofs.Lanes.{as_many, lane_stands, names_distinct, out_of, follows, are_actors}
 
 -- at most that much, in a delivery that so many steps decide
@@ -47,7 +47,7 @@ cost_is c m n steps (Fails code sends) cost f h =
     record { cycles = omega (arith, a, w.within.cycles); memory = omega (arith, b, w.within.quads); events = omega (arith, d, w.events) }
 cost_is c m n steps Undecided cost f h = absurd (none-some cost h)
 
-module _ (lay : Layout) (rom_of : RomImage) (program : IsProgram rom_of lay) {grant : Amounts} (spent : Spending) (s : State) (c : Configuration Tests)
+module _ (lay : Layout) (rom_of : RomImage) (program : HoldsProgram rom_of.boot rom_of.cells lay) {grant : Amounts} (spent : Spending) (s : State) (c : Configuration Tests)
     (ok : Sound grant s) (h : StateStands lay rom_of.cells spent s c) (i : ℕ) (l : Lane) (at : slice_get s.flight i ≡ Some l) where
   abbrev f : LaneStands lay s.store s.roll c spent l
   f = lane_stands lay rom_of program spent s c ok h i l at

@@ -1,4 +1,6 @@
 -- Why a run stops.
+use Rattle.instr_table.specs.Spent.{Spent, spent_in_kind, spent_more}
+use Rattle.vm_turn.specs.Spending.{Spending, spent_in_flight}
 use Rattle.std.proofs.Common.{◌≡◌, refl, ap, sym, subst, ◌∙◌, ℕ, zero, suc, ◌+◌, ◌≤◌, ◌<◌, Bool, true, false, List, [], ◌∷◌, length, map, Option, Some, None, slice_get, arith, if◌then◌else◌, nat_lt, sum}
 use Rattle.std.specs.Prelude.{◌%◌}
 use Rattle.std.proofs.lemmas.Bool.Decides.{nat_tests}
@@ -24,24 +26,21 @@ use Rattle.hum_core.specs.Alike.{Each}
 use Rattle.hum_core.specs.Bound.{Cost, bound, HasBound, HaveBounds}
 use Rattle.hum_core.specs.TestLists.{Tests, tests_language}
 use Rattle.hum_code.specs.Layout.{Layout}
-use Rattle.instr_table.specs.Spent.{Spent, spent_more}
-use Rattle.hum_sim.specs.Program.{IsProgram}
-use Rattle.hum_sim.specs.Spent.{Spending}
+use Rattle.hum_code.specs.Program.{HoldsProgram}
 use Rattle.hum_sim.specs.Standing.{MessageStands, StateStands}
-use Rattle.hum_sim.specs.Legal.{SpentWithin}
-use Rattle.hum_sim.specs.Causes.{spent_of, cost_of, spent_by, MessagesOf, NoneFit}
+use Rattle.hum_sim.specs.Within.{SpentWithin}
+use Rattle.hum_sim.specs.Within.{allowed, MessagesOf, NoChoiceFits}
 use Rattle.hum_sim.proofs.Pending.{Pending}
 use Rattle.hum_sim.proofs.Lanes.{lane_stands}
 use Rattle.hum_sim.proofs.Bounds.{next_within, now_within, spent_within}
-use Rattle.hum_sim.proofs.Payments.{due_of, spent_due}
 use Rattle.hum_sim.proofs.Choosing.{all_go}
 
-pub sum_first : (kind : Quota) (x : Cost) (xs : List Cost) → sum (map (cost_of kind) (x ∷ xs)) ≡ cost_of kind x + sum (map (cost_of kind) xs)
-sum_first kind x xs = sum_by-cons (λ (n : ℕ). n) (cost_of kind x) (map (cost_of kind) xs)
+pub sum_first : (kind : Quota) (x : Cost) (xs : List Cost) → sum (map (allowed kind) (x ∷ xs)) ≡ allowed kind x + sum (map (allowed kind) xs)
+sum_first kind x xs = sum_by-cons (λ (n : ℕ). n) (allowed kind x) (map (allowed kind) xs)
 
 -- ---- at rest
 
-module _ (lay : Layout) (rom_of : RomImage) (program : IsProgram rom_of lay) {grant : Amounts} (spent : Spending) (s : State) (c : Configuration Tests)
+module _ (lay : Layout) (rom_of : RomImage) (program : HoldsProgram rom_of.boot rom_of.cells lay) {grant : Amounts} (spent : Spending) (s : State) (c : Configuration Tests)
     (ok : Sound grant s) (h : StateStands lay rom_of.cells spent s c) where
   runs_at_rest : (pick : ℕ) (o : Option Quota) → s.out_of ≡ o → (unless_spent s pick o).1 ≡ Rest → s.out_of ≡ None
   runs_at_rest pick None e r = e
@@ -71,7 +70,7 @@ module _ (lay : Layout) (rom_of : RomImage) (program : IsProgram rom_of lay) {gr
           let g : first_to_go s.store s.sheet s.flight (m ∷ ms) ≡ Some m = rw goes refl in
           absurd (none-some m (sym f ∙ (ap (λ (xs : List Message). first_to_go s.store s.sheet s.flight xs) a ∙ g)))
 
-module _ (lay : Layout) (rom_of : RomImage) (program : IsProgram rom_of lay) {grant : Amounts} (spent : Spending) (s : State) (c : Configuration Tests)
+module _ (lay : Layout) (rom_of : RomImage) (program : HoldsProgram rom_of.boot rom_of.cells lay) {grant : Amounts} (spent : Spending) (s : State) (c : Configuration Tests)
     (ok : Sound grant s) (h : StateStands lay rom_of.cells spent s c) (running : s.out_of ≡ None) (none : c.pending ≡ []) where
   no_messages : s.messages ≡ []
   no_messages = by s.messages c.pending none h.messages
@@ -112,32 +111,43 @@ module _ (lay : Layout) (rom_of : RomImage) (program : IsProgram rom_of lay) {gr
 
 -- ---- the root ran out
 
-short_is : (a : Account) (c : Charge) (kind : Quota) → short a c ≡ Some kind → (amount kind a).held < due_of kind c
+-- what is due of a kind
+abbrev pub due_in_kind : Quota → Charge → ℕ
+due_in_kind Memory c = c.quads
+due_in_kind Events c = c.events
+due_in_kind Cycles c = 1
+
+spent_due : (kind : Quota) (n : Spent) (c : Charge) → spent_in_kind kind (spent_more n c) ≡ spent_in_kind kind n + due_in_kind kind c
+spent_due Memory n c = omega arith
+spent_due Events n c = omega arith
+spent_due Cycles n c = omega arith
+
+short_is : (a : Account) (c : Charge) (kind : Quota) → short a c ≡ Some kind → (amount kind a).held < due_in_kind kind c
 short_is a c kind h = by (nat_lt a.cycles.held 1) (nat_lt a.memory.held c.quads) (nat_lt a.events.held c.events) refl refl refl h
   where
-    kind_is : (k : Quota) → Some k ≡ Some kind → (amount k a).held < due_of k c → (amount kind a).held < due_of kind c
-    kind_is k e l = subst (λ (q : Quota). (amount q a).held < due_of q c) (same_Some k kind e) l
+    kind_is : (k : Quota) → Some k ≡ Some kind → (amount k a).held < due_in_kind k c → (amount kind a).held < due_in_kind kind c
+    kind_is k e l = subst (λ (q : Quota). (amount q a).held < due_in_kind q c) (same_Some k kind e) l
 
     by : (x y z : Bool) → nat_lt a.cycles.held 1 ≡ x → nat_lt a.memory.held c.quads ≡ y → nat_lt a.events.held c.events ≡ z
-        → (if x then Some Cycles else if y then Some Memory else if z then Some Events else None) ≡ Some kind → (amount kind a).held < due_of kind c
+        → (if x then Some Cycles else if y then Some Memory else if z then Some Events else None) ≡ Some kind → (amount kind a).held < due_in_kind kind c
     by true y z p q r e = kind_is Cycles e (let l : a.cycles.held < 1 = grind (arith, nat_tests, p) in l)
     by false true z p q r e = kind_is Memory e (let l : a.memory.held < c.quads = grind (arith, nat_tests, q) in l)
     by false false true p q r e = kind_is Events e (let l : a.events.held < c.events = grind (arith, nat_tests, r) in l)
     by false false false p q r e = absurd (none-some kind e)
 
-pub within_kind : (kind : Quota) (n : Spent) (cost : Cost) → SpentWithin n cost → spent_of kind n ≤ cost_of kind cost
+pub within_kind : (kind : Quota) (n : Spent) (cost : Cost) → SpentWithin n cost → spent_in_kind kind n ≤ allowed kind cost
 within_kind Memory n cost w = w.memory
 within_kind Events n cost w = w.events
 within_kind Cycles n cost w = w.cycles
 
-module _ (lay : Layout) (rom_of : RomImage) (program : IsProgram rom_of lay) {grant : Amounts} (spent : Spending) (s : State) (c : Configuration Tests)
+module _ (lay : Layout) (rom_of : RomImage) (program : HoldsProgram rom_of.boot rom_of.cells lay) {grant : Amounts} (spent : Spending) (s : State) (c : Configuration Tests)
     (ok : Sound grant s) (h : StateStands lay rom_of.cells spent s c) (kind : Quota) where
   abbrev Has : Pending → Cost → Type 0
   Has m cost = HasBound (tests_language lay.units) (c, m) cost
 
   -- of one event, and of the one whose instruction comes next
   now_in : (i : ℕ) (l : Lane) → slice_get s.flight i ≡ Some l → (m : Pending) → message_of l.number c.pending ≡ Some m → (cost : Cost) → Has m cost
-      → spent_of kind (spent l.number) ≤ cost_of kind cost
+      → spent_in_kind kind (spent l.number) ≤ allowed kind cost
   now_in i l at m found cost b =
       let f = lane_stands lay rom_of program spent s c ok h i l at in
       let same : m ≡ f.message = same_Some m f.message (sym found ∙ f.pending) in
@@ -145,7 +155,7 @@ module _ (lay : Layout) (rom_of : RomImage) (program : IsProgram rom_of lay) {gr
       within_kind kind (spent l.number) cost (spent_within lay rom_of program spent s c ok h i l at (spent l.number) (now_within lay rom_of program spent s c ok h i l at) b.0 cost there)
 
   next_in : (i : ℕ) (l : Lane) → slice_get s.flight i ≡ Some l → (m : Pending) → message_of l.number c.pending ≡ Some m → (cost : Cost) → Has m cost
-      → spent_of kind (spent l.number) + due_of kind (lane_row s.store s.sheet l).charge ≤ cost_of kind cost
+      → spent_in_kind kind (spent l.number) + due_in_kind kind (lane_row s.store s.sheet l).charge ≤ allowed kind cost
   next_in i l at m found cost b =
       let f = lane_stands lay rom_of program spent s c ok h i l at in
       let n = spent_more (spent l.number) (lane_row s.store s.sheet l).charge in
@@ -157,7 +167,7 @@ module _ (lay : Layout) (rom_of : RomImage) (program : IsProgram rom_of lay) {gr
 
   -- of all events
   all_in : (ls : List Lane) → ((i : ℕ) (l : Lane) → slice_get ls i ≡ Some l → (j : ℕ) × (slice_get s.flight j ≡ Some l)) → (ms : List Pending) (costs : List Cost) → MessagesOf c ls ms
-      → HaveBounds (tests_language lay.units) (map (λ m. (c, m)) ms) costs → spent_by kind spent ls ≤ sum (map (cost_of kind) costs)
+      → HaveBounds (tests_language lay.units) (map (λ m. (c, m)) ms) costs → spent_in_flight kind spent ls ≤ sum (map (allowed kind) costs)
   all_in [] from [] [] m b = omega arith
   all_in [] from [] (x ∷ costs) m b = absurd b
   all_in [] from (y ∷ ms) costs m b = absurd m
@@ -167,36 +177,36 @@ module _ (lay : Layout) (rom_of : RomImage) (program : IsProgram rom_of lay) {gr
       let there = from zero l refl in
       let one = now_in there.0 l there.1 y m.0 x b.0 in
       let more = all_in ls (λ i k e. from (suc i) k e) ms costs m.1 b.1 in
-      let p = sum_by-cons (λ (k : Lane). spent_of kind (spent k.number)) l ls in
+      let p = sum_by-cons (λ (k : Lane). spent_in_kind kind (spent k.number)) l ls in
       let q = sum_first kind x costs in
       omega (arith, one, more, p, q)
 
   -- with the instruction that comes next
   all_next : (ls : List Lane) → ((i : ℕ) (l : Lane) → slice_get ls i ≡ Some l → (j : ℕ) × (slice_get s.flight j ≡ Some l)) → (ms : List Pending) (costs : List Cost) → MessagesOf c ls ms
       → HaveBounds (tests_language lay.units) (map (λ m. (c, m)) ms) costs → (i : ℕ) (l : Lane) → slice_get ls i ≡ Some l
-      → spent_by kind spent ls + due_of kind (lane_row s.store s.sheet l).charge ≤ sum (map (cost_of kind) costs)
+      → spent_in_flight kind spent ls + due_in_kind kind (lane_row s.store s.sheet l).charge ≤ sum (map (allowed kind) costs)
   all_next [] from ms costs m b i l at = absurd (none-some l at)
   all_next (k ∷ ls) from [] costs m b i l at = absurd m
   all_next (k ∷ ls) from (y ∷ ms) [] m b i l at = absurd b
   all_next (k ∷ ls) from (y ∷ ms) (x ∷ costs) m b zero l at =
       let there = from zero k refl in
       let same : k ≡ l = same_Some k l at in
-      let one = subst (λ (z : Lane). spent_of kind (spent k.number) + due_of kind (lane_row s.store s.sheet z).charge ≤ cost_of kind x) same (next_in there.0 k there.1 y m.0 x b.0) in
+      let one = subst (λ (z : Lane). spent_in_kind kind (spent k.number) + due_in_kind kind (lane_row s.store s.sheet z).charge ≤ allowed kind x) same (next_in there.0 k there.1 y m.0 x b.0) in
       let more = all_in ls (λ i z e. from (suc i) z e) ms costs m.1 b.1 in
-      let p = sum_by-cons (λ (z : Lane). spent_of kind (spent z.number)) k ls in
+      let p = sum_by-cons (λ (z : Lane). spent_in_kind kind (spent z.number)) k ls in
       let q = sum_first kind x costs in
       omega (arith, one, more, p, q)
   all_next (k ∷ ls) from (y ∷ ms) (x ∷ costs) m b (suc i) l at =
       let there = from zero k refl in
       let one = now_in there.0 k there.1 y m.0 x b.0 in
       let more = all_next ls (λ i z e. from (suc i) z e) ms costs m.1 b.1 i l at in
-      let p = sum_by-cons (λ (z : Lane). spent_of kind (spent z.number)) k ls in
+      let p = sum_by-cons (λ (z : Lane). spent_in_kind kind (spent z.number)) k ls in
       let q = sum_first kind x costs in
       omega (arith, one, more, p, q)
 
   -- where an instruction can't be paid, no choice fits
   pub none_fit : (i : ℕ) (l : Lane) → slice_get s.flight i ≡ Some l → short (account s.sheet l.own.sponsor) (lane_row s.store s.sheet l).charge ≡ Some kind
-      → NoneFit (tests_language lay.units) c spent s kind
+      → NoChoiceFits (tests_language lay.units) c spent s kind
   none_fit i l at e ms costs m b fit =
       let f = lane_stands lay rom_of program spent s c ok h i l at in
       let less = short_is (account s.sheet root) (lane_row s.store s.sheet l).charge kind (subst (λ w. short (account s.sheet w) (lane_row s.store s.sheet l).charge ≡ Some kind) f.sponsor e) in

@@ -1,4 +1,5 @@
 -- The message that is dispatched is the first pending one to its target.
+use Rattle.vm_turn.specs.Spending.{Spending}
 use Rattle.std.proofs.Common.{◌≡◌, ◌⊎◌, inl, inr, refl, ap, sym, subst, ◌∙◌, ℕ, suc, ◌≤◌, Bool, true, false, List, [], ◌∷◌, Option, Some, None, slice_get, nat_eq, arith}
 use Rattle.std.specs.Prelude.{◌&&◌, not}
 use Rattle.std.proofs.lemmas.Option.{same_Some}
@@ -22,13 +23,13 @@ use Rattle.hum_meaning.specs.After.{message_of}
 use Rattle.hum_meaning.specs.Sound.{Rising}
 use Rattle.hum_core.specs.TestLists.{Tests}
 use Rattle.hum_code.specs.Layout.{Layout}
-use Rattle.hum_sim.specs.Program.{IsProgram}
-use Rattle.hum_sim.specs.Spent.{Spending}
-use Rattle.hum_sim.specs.Standing.{first_to, Rests, ActorStands, MessageStands, StateStands}
+use Rattle.hum_code.specs.Program.{HoldsProgram}
+use Rattle.hum_sim.specs.Standing.{first_to, ActorStands, MessageStands, StateStands}
+use Rattle.vm_turn.specs.Roll.{NoEventOf}
 use Rattle.hum_sim.proofs.Lists.{tested, none_inside, each_at, each_from, one_there}
 use Rattle.hum_sim.proofs.Pending.{Pending, rising_as, message_at, first_at, head_at}
-use Rattle.hum_sim.proofs.Stores.{idle_there}
-use Rattle.hum_sim.proofs.Root.{root_runs}
+use Rattle.vm_turn.proofs.Actors.{idle-there}
+use Rattle.vm_turn.proofs.Root.{root-runs}
 use Rattle.hum_sim.proofs.Lanes.{lane_stands, lane_in}
 
 -- an event of that number is in flight
@@ -50,7 +51,7 @@ sent_is s w sponsor target content h = ap (λ (o : Option Slot). sent_in w o) h
 all_true : (a b c : Bool) → a ≡ false → b ≡ true → c ≡ true → (not a && b && c) ≡ true
 all_true a b c p q r = rw (p, q, r) refl
 
-module _ (lay : Layout) (rom_of : RomImage) (program : IsProgram rom_of lay) {grant : Amounts} (spent : Spending) (s : State) (c : Configuration Tests)
+module _ (lay : Layout) (rom_of : RomImage) (program : HoldsProgram rom_of.boot rom_of.cells lay) {grant : Amounts} (spent : Spending) (s : State) (c : Configuration Tests)
     (ok : Sound grant s) (h : StateStands lay rom_of.cells spent s c) where
   pub rising : Rising 0 s.next_number c.pending
   rising = rising_as (MessageStands lay s.store s.roll) (λ m p x. x.number) 0 s.next_number s.messages c.pending h.messages ok.rising
@@ -64,7 +65,7 @@ module _ (lay : Layout) (rom_of : RomImage) (program : IsProgram rom_of lay) {gr
         all_true (is_in_flight y.number s.flight) (is_idle s.store (sent_at s.store y.event).target) (runs s.sheet (sent_at s.store y.event).sponsor)
         (by (is_in_flight y.number s.flight) refl)
         (ap (λ (x : Sent). is_idle s.store x.target) e ∙ ap is_idle_in idle)
-        (ap (λ (x : Sent). runs s.sheet x.sponsor) e ∙ root_runs s.sheet s.out_of h.root running)
+        (ap (λ (x : Sent). runs s.sheet x.sponsor) e ∙ root-runs s.sheet s.out_of h.root running)
       where
         by : (b : Bool) → is_in_flight y.number s.flight ≡ b → is_in_flight y.number s.flight ≡ false
         by false e = e
@@ -81,9 +82,9 @@ module _ (lay : Layout) (rom_of : RomImage) (program : IsProgram rom_of lay) {gr
     -- where nothing is in flight each can go
     pub all_go : s.flight ≡ [] → (j : ℕ) (y : Message) (q : Pending) → slice_get c.pending j ≡ Some q → MessageStands lay s.store s.roll y q → can_go s.store s.sheet s.flight y ≡ true
     all_go none j y q at v =
-        let a = each_at (ActorStands lay s.store s.roll s.flight) s.roll c.behaviours q.target v.target h.actors v.target_is in
+        let a = each_at (ActorStands lay s.store s.roll s.flight) s.roll c.behaviours q.target v.target h.behaviours.actors v.target_is in
         let x = a.2 in
-        let mark : x.mark ≡ undef = x.idle (subst (λ (ls : List Lane). Rests v.target ls) (sym none) tt) in
+        let mark : x.mark ≡ undef = x.idle (subst (λ (ls : List Lane). NoEventOf v.target ls) (sym none) tt) in
         idle_goes j y q at v x.code x.state (x.there ∙ ap (λ (w : W). Some (ActorSlot x.code x.state w)) mark)
 
     module _ (m : Message) (chosen : dispatchable s ≡ Some m) where
@@ -109,7 +110,7 @@ module _ (lay : Layout) (rom_of : RomImage) (program : IsProgram rom_of lay) {gr
       pub idle : (code : W) × (state : W) × (slot_seen s.store stands.target ≡ Some (ActorSlot code state undef))
       idle =
           let i = dispatchable-idle s m chosen in
-          idle_there (slot_seen s.store stands.target) (sym (ap (λ (x : Sent). is_idle s.store x.target) sent) ∙ i)
+          idle-there (slot_seen s.store stands.target) (sym (ap (λ (x : Sent). is_idle s.store x.target) sent) ∙ i)
 
       pub first : first_to p.target c.pending ≡ Some p
       first = first_at 0 s.next_number c.pending next.place p rising found.1 least
@@ -139,4 +140,4 @@ module _ (lay : Layout) (rom_of : RomImage) (program : IsProgram rom_of lay) {gr
 
       -- its target's actor
       pub target_stands : (b : Behaviour Tests) × (slice_get c.behaviours p.target ≡ Some b) × ActorStands lay s.store s.roll s.flight stands.target b
-      target_stands = each_at (ActorStands lay s.store s.roll s.flight) s.roll c.behaviours p.target stands.target h.actors stands.target_is
+      target_stands = each_at (ActorStands lay s.store s.roll s.flight) s.roll c.behaviours p.target stands.target h.behaviours.actors stands.target_is

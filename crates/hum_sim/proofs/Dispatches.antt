@@ -1,4 +1,6 @@
 -- A dispatch keeps what stands; a device's delivery makes the configuration that its message's delivery makes.
+use Rattle.instr_table.specs.Spent.{Spent, unspent}
+use Rattle.vm_turn.specs.Spending.{Spending, with_spent}
 use Rattle.std.proofs.Common.{◌≡◌, ◌⊎◌, inl, inr, refl, ap, sym, subst, ◌∙◌, ℕ, Bool, true, false, List, [], ◌∷◌, ◌++◌, length-append, Option, Some, None, slice_get, eq-eqb, ne_eqb, arith}
 use Rattle.std.specs.Prelude.{pos}
 use Rattle.std.proofs.lemmas.Option.{none-some}
@@ -26,16 +28,16 @@ use Rattle.hum_meaning.specs.Deliver.{Configuration, without, drop}
 use Rattle.hum_core.specs.Alike.{Each}
 use Rattle.hum_core.specs.TestLists.{Tests}
 use Rattle.hum_code.specs.Layout.{Layout}
-use Rattle.instr_table.specs.Spent.{Spent, unspent}
 use Rattle.hum_code.specs.Reaches.{Reaches, dispatched}
 use Rattle.hum_code.proofs.Standing.{longer_same, stands_later}
-use Rattle.hum_sim.specs.Program.{IsProgram}
-use Rattle.hum_sim.specs.Spent.{Spending, with_spent}
-use Rattle.hum_sim.specs.Standing.{Rests, BehaviourStands, ActorStands, MessageStands, LaneStands, IsFirst, StateStands}
+use Rattle.hum_code.specs.Program.{HoldsProgram}
+use Rattle.hum_sim.specs.Standing.{BehaviourStands, ActorStands, MessageStands, LaneStands, IsFirst, StateStands}
+use Rattle.vm_turn.specs.Roll.{NoEventOf}
 use Rattle.hum_sim.proofs.Lists.{every_both, none_inside, each_by}
 use Rattle.hum_sim.proofs.Pending.{Pending, message_number, message_without, first_without, each_without}
-use Rattle.hum_sim.proofs.Stores.{actor_other, shown_actor, busy_seen, busy_grows}
-use Rattle.hum_sim.proofs.Root.{code_out_alike}
+use Rattle.hum_sim.proofs.Stores.{shown_actor, busy_seen}
+use Rattle.vm_turn.proofs.Actors.{actor-other, busy-grows}
+use Rattle.hum_sim.proofs.Stores.{code_out_alike}
 use Rattle.hum_sim.proofs.Growth.{answers_later, behaviour_later, actor_later, message_later, lane_later}
 use Rattle.hum_sim.proofs.Lanes.{other_every}
 use Rattle.hum_sim.proofs.Choosing as choosing
@@ -51,7 +53,7 @@ word_cases a b = by (same_word a b) refl
 abbrev pub Targets : State → Type 0
 Targets s = (i j : ℕ) (k l : Lane) → slice_get s.flight i ≡ Some k → slice_get s.flight j ≡ Some l → k.own.actor ≡ l.own.actor → i ≡ j
 
-module _ (lay : Layout) (rom_of : RomImage) (program : IsProgram rom_of lay) {grant : Amounts} (spent : Spending) (s : State) (c : Configuration Tests)
+module _ (lay : Layout) (rom_of : RomImage) (program : HoldsProgram rom_of.boot rom_of.cells lay) {grant : Amounts} (spent : Spending) (s : State) (c : Configuration Tests)
     (ok : Sound grant s) (h : StateStands lay rom_of.cells spent s c) (running : s.out_of ≡ None) (m : Message) (chosen : dispatchable s ≡ Some m) where
   abbrev pub p : Pending
   p = choosing.p lay rom_of program spent s c ok h running m chosen
@@ -79,7 +81,7 @@ module _ (lay : Layout) (rom_of : RomImage) (program : IsProgram rom_of lay) {gr
   others_numbers = other_every m.number s.flight (dispatchable-chosen s m chosen).other
 
   others_actors : Every (λ (k : Lane). k.own.actor ≡ target → ⊥) s.flight
-  others_actors = of s.flight h.events.stands
+  others_actors = of s.flight h.flight.sound.stands
     where
       of : (ls : List Lane) → Every (StandsIn s.store) ls → Every (λ (k : Lane). k.own.actor ≡ target → ⊥) ls
       of [] e = tt
@@ -118,7 +120,7 @@ module _ (lay : Layout) (rom_of : RomImage) (program : IsProgram rom_of lay) {gr
       (ap (λ (o : Option Slot). behaviour_in o) actor.there)
 
   grows : Grows s.store store'
-  grows = busy_grows s.store target actor.code actor.state actor.mark m.number actor.there
+  grows = busy-grows s.store target m.number
 
   rom_same : store'.rom ≡ s.store.rom
   rom_same = (alike-busy s.store target m.number).rom_is
@@ -127,7 +129,7 @@ module _ (lay : Layout) (rom_of : RomImage) (program : IsProgram rom_of lay) {gr
   busy_there = busy_seen s.store target actor.code actor.state actor.mark m.number actor.there
 
   other_there : (w : W) → (w ≡ target → ⊥) → slot_seen store' w ≡ slot_seen s.store w
-  other_there w d = actor_other s.store target (busy m.number) w d
+  other_there w d = actor-other s.store target (busy m.number) w d
 
   an_actor : (j : ℕ) (u : W) (b : Behaviour Tests) → slice_get s.roll j ≡ Some u → ActorStands lay s.store s.roll s.flight u b → ActorStands lay store' s.roll flight' u b
   an_actor j u b at x = by (word_cases u target)
@@ -145,7 +147,7 @@ module _ (lay : Layout) (rom_of : RomImage) (program : IsProgram rom_of lay) {gr
         behaves = behaviour_later lay s.store store' s.roll s.roll grows (longer_same s.roll) u x.code x.state b x.behaves;
       }
         where
-          last : (ls : List Lane) → Rests u (ls ++ new ∷ []) → target ≡ u → ⊥
+          last : (ls : List Lane) → NoEventOf u (ls ++ new ∷ []) → target ≡ u → ⊥
           last [] r d = r.0 d
           last (l ∷ ls) r d = last ls r.1 d
 
@@ -167,39 +169,44 @@ module _ (lay : Layout) (rom_of : RomImage) (program : IsProgram rom_of lay) {gr
     behaviour = v;
     behaves = at;
     base = store';
-    rom_is = refl;
-    shown = shown_actor store' target (ActorSlot actor.code actor.state (Fix (pos m.number))) busy_there refl;
-    answers = answers_later lay s.store store' s.roll s.roll grows (longer_same s.roll) target actor.code actor.state v b.1;
-    value = stands_later lay s.store store' s.roll s.roll grows (longer_same s.roll) stands.content p.value stands.value;
+    begins = record {
+      rom_is = refl;
+      shown = shown_actor store' target (ActorSlot actor.code actor.state (Fix (pos m.number))) busy_there refl;
+      answers = answers_later lay s.store store' s.roll s.roll grows (longer_same s.roll) target actor.code actor.state v b.1;
+      message = stands_later lay s.store store' s.roll s.roll grows (longer_same s.roll) stands.content p.value stands.value;
+    };
     reached =
         let e : spent' m.number ≡ unspent = rw (eq-eqb m.number m.number refl) refl in
         subst (λ (n : Spent). Reaches store' (begun m.number own') store' new n) (sym e) dispatched;
     sponsor = refl;
-    sent = tt;
   }
 
   pub dispatch_stands : device_of target ≡ None → FlightSound begun_state → Targets begun_state → StateStands lay rom_of.cells spent' begun_state c
   dispatch_stands none events targets = record {
     rom_is = rom_same ∙ h.rom_is;
-    actors = each_by (ActorStands lay s.store s.roll s.flight) (ActorStands lay store' s.roll flight') s.roll c.behaviours an_actor h.actors;
-    once = h.once;
-    front = h.front;
+    behaviours = record {
+      actors = each_by (ActorStands lay s.store s.roll s.flight) (ActorStands lay store' s.roll flight') s.roll c.behaviours an_actor h.behaviours.actors;
+      once = h.behaviours.once;
+      front = h.behaviours.front;
+    };
     messages = each_by (MessageStands lay s.store s.roll) (MessageStands lay store' s.roll) s.messages c.pending a_message h.messages;
     next_number = h.next_number;
     output = h.output;
-    flight = every-append (LaneStands lay store' s.roll c spent') s.flight (new ∷ [])
-        (every_both (λ (k : Lane). k.number ≡ m.number → ⊥) (LaneStands lay s.store s.roll c spent) (LaneStands lay store' s.roll c spent') other s.flight others_numbers h.flight)
-        (itself found.0 found.1 none actor.behaves, tt);
-    events = events;
-    targets = targets;
+    flight = record {
+      events = every-append (LaneStands lay store' s.roll c spent') s.flight (new ∷ [])
+          (every_both (λ (k : Lane). k.number ≡ m.number → ⊥) (LaneStands lay s.store s.roll c spent) (LaneStands lay store' s.roll c spent') other s.flight others_numbers h.flight.events)
+          (itself found.0 found.1 none actor.behaves, tt);
+      sound = events;
+      targets = targets;
+      room =
+          let f = (choosing.next lay rom_of program spent s c ok h running m chosen).free in
+          let k = length-append s.flight (new ∷ []) in
+          omega (arith, k, f);
+      in_turn = λ one. every-append (IsFirst lay c) s.flight (new ∷ []) (h.flight.in_turn one)
+          ((p, choosing.first_of_all lay rom_of program spent s c ok h running m chosen one, sym stands.number), tt);
+    };
     root = h.root;
     code_out = code_out_alike s.store store' (alike-busy s.store target m.number) h.code_out;
-    room =
-        let f = (choosing.next lay rom_of program spent s c ok h running m chosen).free in
-        let k = length-append s.flight (new ∷ []) in
-        omega (arith, k, f);
-    in_turn = λ one. every-append (IsFirst lay c) s.flight (new ∷ []) (h.in_turn one)
-        ((p, choosing.first_of_all lay rom_of program spent s c ok h running m chosen one, sym stands.number), tt);
   }
 
   -- ---- a device's delivery
@@ -218,13 +225,9 @@ module _ (lay : Layout) (rom_of : RomImage) (program : IsProgram rom_of lay) {gr
         behaviour = f.behaviour;
         behaves = f.behaves;
         base = f.base;
-        rom_is = f.rom_is;
-        shown = f.shown;
-        answers = f.answers;
-        value = f.value;
+        begins = f.begins;
         reached = subst (λ (n : Spent). Reaches f.base (begun k.number k.own) s.store k n) (sym (rw (ne_eqb k.number m.number d) refl)) f.reached;
         sponsor = f.sponsor;
-        sent = f.sent;
       }
 
   -- what an event in flight stands for does not hang on the output
@@ -237,33 +240,29 @@ module _ (lay : Layout) (rom_of : RomImage) (program : IsProgram rom_of lay) {gr
     behaviour = f.behaviour;
     behaves = f.behaves;
     base = f.base;
-    rom_is = f.rom_is;
-    shown = f.shown;
-    answers = f.answers;
-    value = f.value;
+    begins = f.begins;
     reached = f.reached;
     sponsor = f.sponsor;
-    sent = f.sent;
   }
 
   pub device_stands : (end : End) (bytes : List ℕ) → FlightSound (delivered s m.number end bytes) → Targets (delivered s m.number end bytes)
       → StateStands lay rom_of.cells spent' (delivered s m.number end bytes) (printed_to bytes)
   device_stands end bytes events targets = record {
     rom_is = h.rom_is;
-    actors = h.actors;
-    once = h.once;
-    front = h.front;
+    behaviours = record { actors = h.behaviours.actors; once = h.behaviours.once; front = h.behaviours.front };
     messages =
         subst (λ (n : ℕ). Each (MessageStands lay s.store s.roll) (machine.without m.number s.messages) (without n c.pending)) stands.number
         (each_without (MessageStands lay s.store s.roll) (λ x q r. r.number) m.number s.messages c.pending h.messages);
     next_number = h.next_number;
     output = ap (λ (o : List ℕ). o ++ bytes) h.output;
-    flight = every_both (λ (k : Lane). k.number ≡ m.number → ⊥) (LaneStands lay s.store s.roll c spent) (LaneStands lay s.store s.roll (printed_to bytes) spent')
-        (λ k d f. lane_output (without p.number c.pending) (c.output ++ bytes) k (device_other k d f)) s.flight others_numbers h.flight;
-    events = events;
-    targets = targets;
+    flight = record {
+      events = every_both (λ (k : Lane). k.number ≡ m.number → ⊥) (LaneStands lay s.store s.roll c spent) (LaneStands lay s.store s.roll (printed_to bytes) spent')
+          (λ k d f. lane_output (without p.number c.pending) (c.output ++ bytes) k (device_other k d f)) s.flight others_numbers h.flight.events;
+      sound = events;
+      targets = targets;
+      room = h.flight.room;
+      in_turn = λ one. subst (Every (IsFirst lay (printed_to bytes))) (sym (no_flight one)) tt;
+    };
     root = h.root;
     code_out = h.code_out;
-    room = h.room;
-    in_turn = λ one. subst (Every (IsFirst lay (printed_to bytes))) (sym (no_flight one)) tt;
   }

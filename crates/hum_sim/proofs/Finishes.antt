@@ -1,4 +1,5 @@
 -- An event's end keeps what stands, with the configuration that its effects make.
+use Rattle.vm_turn.specs.Spending.{Spending}
 use Rattle.std.proofs.Common.{◌≡◌, inl, inr, refl, ap, sym, subst, ◌∙◌, ℕ, zero, suc, List, [], ◌∷◌, ◌++◌, map, Option, Some, None, slice_get, slice_set, arith, append-nil, add-zero}
 use Rattle.std.specs.Prelude.{remove}
 use Rattle.std.proofs.lemmas.Option.{same_Some}
@@ -36,13 +37,14 @@ use Rattle.hum_code.specs.WordLists.{Distinct}
 use Rattle.hum_code.specs.Layout.{Layout}
 use Rattle.hum_code.specs.Stands.{MadeStands, SentStands, NextStands, EffectsStand}
 use Rattle.hum_code.proofs.Standing.{Longer, longer_same, longer_by, stands_later}
-use Rattle.hum_sim.specs.Program.{IsProgram}
-use Rattle.hum_sim.specs.Spent.{Spending}
-use Rattle.hum_sim.specs.Standing.{AnswersStand, ActorStands, MessageStands, LaneStands, RootAlone, IsFirst, StateStands}
+use Rattle.hum_code.specs.Program.{HoldsProgram}
+use Rattle.hum_sim.specs.Standing.{AnswersStand, ActorStands, MessageStands, LaneStands, IsFirst, StateStands}
+use Rattle.vm_turn.specs.Alone.{RootAlone}
 use Rattle.hum_sim.proofs.Lists.{every_both, every_with, removed_only, get_append_left, one_there, each_append, each_at, each_by, each_length, each_set}
 use Rattle.hum_sim.proofs.Pending.{Pending, message_number, message_append, message_without, first_append, first_without, each_without}
-use Rattle.hum_sim.proofs.Stores.{actor_other, next_code, next_state, resting_seen, resting_grows, Unborn, idle_other, idle_grows, idle_seen, made_among}
-use Rattle.hum_sim.proofs.Root.{code_out_alike}
+use Rattle.hum_sim.proofs.Stores.{next_code, next_state, resting_seen, Unborn, idle_other, idle_grows, idle_seen, made_among}
+use Rattle.vm_turn.proofs.Actors.{actor-other, resting-grows}
+use Rattle.hum_sim.proofs.Stores.{code_out_alike}
 use Rattle.hum_sim.proofs.Growth.{answers_later, actor_later, message_later, lane_later}
 use Rattle.hum_sim.proofs.Lanes.{distinct_by, at_among, both_once, is_actor, lane_stands, others_numbers, others_actors, actor_among}
 use Rattle.hum_sim.proofs.Dispatches.{Targets}
@@ -95,7 +97,7 @@ next_answers lay s t r r' g h a code state v None (Some b) x n = absurd n
 next_answers lay s t r r' g h a code state v (Some u) None x n = absurd n
 next_answers lay s t r r' g h a code state v (Some u) (Some b) x n = inl (n.1, stands_later lay s t r' r' g (longer_same r') b.state u n.0)
 
-module _ (lay : Layout) (rom_of : RomImage) (program : IsProgram rom_of lay) {grant : Amounts} (spent : Spending) (s : State) (c : Configuration Tests)
+module _ (lay : Layout) (rom_of : RomImage) (program : HoldsProgram rom_of.boot rom_of.cells lay) {grant : Amounts} (spent : Spending) (s : State) (c : Configuration Tests)
     (ok : Sound grant s) (h : StateStands lay rom_of.cells spent s c) (i : ℕ) (l : Lane) (at : slice_get s.flight i ≡ Some l)
     (x : Effects) (e : Gathered) (unborn : Unborn s.store x.created) (sents : Every (IsSentIn s.store) x.sent) (under : Every (λ (m : Sent). m.sponsor ≡ root) x.sent)
     (eff : EffectsStand lay s.roll s.store e x) (spent' : Spending) (spends : (k : ℕ) → (k ≡ l.number → ⊥) → spent' k ≡ spent k) where
@@ -124,7 +126,7 @@ module _ (lay : Layout) (rom_of : RomImage) (program : IsProgram rom_of lay) {gr
 
   target : ActorStands lay s.store s.roll s.flight a (Answers f.behaviour)
   target =
-      let b = each_at (ActorStands lay s.store s.roll s.flight) s.roll c.behaviours f.message.target a h.actors f.actor_is in
+      let b = each_at (ActorStands lay s.store s.roll s.flight) s.roll c.behaviours f.message.target a h.behaviours.actors f.actor_is in
       subst (ActorStands lay s.store s.roll s.flight a) (same_Some b.0 (Answers f.behaviour) (sym b.1 ∙ f.behaves)) b.2
 
   -- no actor of the roll was created by it
@@ -136,18 +138,18 @@ module _ (lay : Layout) (rom_of : RomImage) (program : IsProgram rom_of lay) {gr
 
   mid_unborn : Unborn mid x.created
   mid_unborn = record {
-    are = λ w m. actor_other s.store a (resting x.next) w (λ d. not_made a a_on (subst (λ (v : W). Among v (made_words x.created)) d m)) ∙ unborn.are w m;
+    are = λ w m. actor-other s.store a (resting x.next) w (λ d. not_made a a_on (subst (λ (v : W). Among v (made_words x.created)) d m)) ∙ unborn.are w m;
     once = unborn.once;
   }
 
   other_there : (w : W) → (w ≡ a → ⊥) → (Among w (made_words x.created) → ⊥) → slot_seen store' w ≡ slot_seen s.store w
-  other_there w d n = idle_other mid x.created w mid_unborn n ∙ actor_other s.store a (resting x.next) w d
+  other_there w d n = idle_other mid x.created w mid_unborn n ∙ actor-other s.store a (resting x.next) w d
 
   own_there : slot_seen store' a ≡ Some (ActorSlot (next_code x.next target.code) (next_state x.next target.state) undef)
   own_there = idle_other mid x.created a mid_unborn (not_made a a_on) ∙ resting_seen s.store a target.code target.state target.mark x.next target.there
 
   grows : Grows s.store store'
-  grows = grows-then s.store mid store' (resting_grows s.store a target.code target.state target.mark x.next target.there) (idle_grows mid x.created mid_unborn)
+  grows = grows-then s.store mid store' (resting-grows s.store a x.next) (idle_grows mid x.created mid_unborn)
 
   rom_same : store'.rom ≡ s.store.rom
   rom_same = (alike-settled s.store a x).rom_is
@@ -165,7 +167,7 @@ module _ (lay : Layout) (rom_of : RomImage) (program : IsProgram rom_of lay) {gr
   -- ---- actors
 
   on_roll : Distinct s.roll
-  on_roll = distinct_by s.roll h.once
+  on_roll = distinct_by s.roll h.behaviours.once
 
   an_actor : (j : ℕ) (u : W) (b : Behaviour Tests) → (j ≡ f.message.target → ⊥) → slice_get s.roll j ≡ Some u → ActorStands lay s.store s.roll s.flight u b → ActorStands lay store' roll' flight' u b
   an_actor j u b d there y =
@@ -187,7 +189,7 @@ module _ (lay : Layout) (rom_of : RomImage) (program : IsProgram rom_of lay) {gr
   no_device w u =
       let on : List W → Type 0 = λ (ws : List W). (v : W) → Among v ws → (slot_seen s.store v ≡ Some UnbornSlot → ⊥) in
       let all : on s.roll = λ v m k. let y = is_actor lay rom_of program spent s c ok h v m in let z = y.3 in absurd cc in
-      let front : on (first_actor ∷ println_device ∷ say_device ∷ h.front.0) = subst on h.front.1 all in
+      let front : on (first_actor ∷ println_device ∷ say_device ∷ h.behaviours.front.0) = subst on h.behaviours.front.1 all in
       let one : w ≡ println_device → ⊥ = λ d. front println_device (inr (inl refl)) (ap (λ (v : W). slot_seen s.store v) (sym d) ∙ u) in
       let two : w ≡ say_device → ⊥ = λ d. front say_device (inr (inr (inl refl))) (ap (λ (v : W). slot_seen s.store v) (sym d) ∙ u) in
       rw (word_other w println_device one, word_other w say_device two) refl
@@ -205,7 +207,7 @@ module _ (lay : Layout) (rom_of : RomImage) (program : IsProgram rom_of lay) {gr
   actors' : Each (ActorStands lay store' roll' flight') roll' c'.behaviours
   actors' =
       let first = each_set (ActorStands lay s.store s.roll s.flight) (ActorStands lay store' roll' flight') s.roll c.behaviours f.message.target a (Answers (after f.behaviour e.next)) f.actor_is
-      an_actor its_actor h.actors in
+      an_actor its_actor h.behaviours.actors in
       let second = each_made (MadeStands lay s.store roll') (ActorStands lay store' roll' flight') e.created x.created made_actor eff.created in
       each_append (ActorStands lay store' roll' flight') s.roll (replaced c.behaviours f.message.target e.next) (made_words x.created) (map Answers e.created)
       (subst (Each (ActorStands lay store' roll' flight') s.roll) (sym (replaced_is c.behaviours f.message.target f.behaviour e.next f.behaves)) first) second
@@ -245,22 +247,26 @@ module _ (lay : Layout) (rom_of : RomImage) (program : IsProgram rom_of lay) {gr
       → StateStands lay rom_of.cells spent' (record (finish s i l sheet x end) { out_of = out }) c'
   finish_stands end sheet out alone events targets = record {
     rom_is = rom_same ∙ h.rom_is;
-    actors = actors';
-    once = both_once s.roll (made_words x.created) h.once unborn.once not_made;
-    front = (h.front.0 ++ made_words x.created, ap (λ (ws : List W). ws ++ made_words x.created) h.front.1);
+    behaviours = record {
+      actors = actors';
+      once = both_once s.roll (made_words x.created) h.behaviours.once unborn.once not_made;
+      front = (h.behaviours.front.0 ++ made_words x.created, ap (λ (ws : List W). ws ++ made_words x.created) h.behaviours.front.1);
+    };
     messages = messages';
     next_number = let n = each_length (SentStands lay s.store roll') e.sent x.sent eff.sent in omega (arith, n, h.next_number);
     output = h.output;
-    flight = every_both (λ (k : Lane). (k.number ≡ l.number → ⊥) × (k.own.actor ≡ a → ⊥)) (LaneStands lay s.store s.roll c spent) (LaneStands lay store' roll' c' spent') other flight'
-        (every_both (λ (k : Lane). k.number ≡ l.number → ⊥) (λ (k : Lane). k.own.actor ≡ a → ⊥) (λ (k : Lane). (k.number ≡ l.number → ⊥) × (k.own.actor ≡ a → ⊥)) (λ k p q. (p, q)) flight'
-        (others_numbers lay rom_of program spent s c ok h i l at) (others_actors lay rom_of program spent s c ok h i l at))
-        (every-removed (LaneStands lay s.store s.roll c spent) s.flight i h.flight);
-    events = events;
-    targets = targets;
+    flight = record {
+      events = every_both (λ (k : Lane). (k.number ≡ l.number → ⊥) × (k.own.actor ≡ a → ⊥)) (LaneStands lay s.store s.roll c spent) (LaneStands lay store' roll' c' spent') other flight'
+          (every_both (λ (k : Lane). k.number ≡ l.number → ⊥) (λ (k : Lane). k.own.actor ≡ a → ⊥) (λ (k : Lane). (k.number ≡ l.number → ⊥) × (k.own.actor ≡ a → ⊥)) (λ k p q. (p, q)) flight'
+          (others_numbers lay rom_of program spent s c ok h i l at) (others_actors lay rom_of program spent s c ok h i l at))
+          (every-removed (LaneStands lay s.store s.roll c spent) s.flight i h.flight.events);
+      sound = events;
+      targets = targets;
+      room = let k = length-removed s.flight i l at in omega (arith, k, h.flight.room);
+      in_turn = λ one. subst (Every (IsFirst lay c')) (sym (removed_only s.flight i l (let r = h.flight.room in omega (arith, one, r)) at)) tt;
+    };
     root = alone;
     code_out = code_out_alike s.store store' (alike-settled s.store a x) h.code_out;
-    room = let k = length-removed s.flight i l at in omega (arith, k, h.room);
-    in_turn = λ one. subst (Every (IsFirst lay c')) (sym (removed_only s.flight i l (let r = h.room in omega (arith, one, r)) at)) tt;
   }
 
 -- nothing takes place

@@ -1,4 +1,6 @@
 -- What others do leaves what stands.
+use Rattle.instr_table.specs.Spent.{Spent}
+use Rattle.vm_turn.specs.Spending.{Spending}
 use Rattle.std.proofs.Common.{◌≡◌, inl, inr, sym, subst, ◌∙◌, List, Some, slice_get}
 use Rattle.cap_words.specs.Words.{W}
 use Rattle.cap_words.specs.Seen.{Seen, slot_seen}
@@ -11,13 +13,12 @@ use Rattle.hum_meaning.specs.After.{message_of}
 use Rattle.hum_core.specs.TestLists.{Tests}
 use Rattle.hum_code.specs.Layout.{Layout}
 use Rattle.hum_code.specs.Opening.{Devices}
-use Rattle.instr_table.specs.Spent.{Spent}
 use Rattle.hum_code.specs.Reaches.{Reaches, others}
 use Rattle.hum_code.proofs.Standing.{Longer, stands_later}
-use Rattle.hum_sim.specs.Spent.{Spending}
-use Rattle.hum_sim.specs.Standing.{first_to, Rests, AnswersStand, BehaviourStands, ActorStands, MessageStands, LaneStands}
+use Rattle.hum_sim.specs.Standing.{first_to, AnswersStand, BehaviourStands, ActorStands, MessageStands, LaneStands}
+use Rattle.vm_turn.specs.Roll.{NoEventOf}
 use Rattle.hum_sim.proofs.Pending.{Pending}
-use Rattle.hum_sim.proofs.Stores.{same_grows}
+use Rattle.vm_turn.proofs.Actors.{same-grows}
 
 module _ (lay : Layout) (s t : Seen) (r r' : List W) (g : Grows s t) (h : Longer r r') where
   devices_later : (w : W) → Devices lay s r w → Devices lay t r' w
@@ -41,7 +42,7 @@ module _ (lay : Layout) (s t : Seen) (r r' : List W) (g : Grows s t) (h : Longer
   behaviour_later a code state (Answers v) p = (p.0, answers_later a code state v p.1)
 
   -- an actor whose quad is as it was
-  pub actor_later : (flight flight' : List Lane) (a : W) (b : Behaviour Tests) → slot_seen t a ≡ slot_seen s a → (Rests a flight' → Rests a flight)
+  pub actor_later : (flight flight' : List Lane) (a : W) (b : Behaviour Tests) → slot_seen t a ≡ slot_seen s a → (NoEventOf a flight' → NoEventOf a flight)
       → ActorStands lay s r flight a b → ActorStands lay t r' flight' a b
   actor_later flight flight' a b same rests x = record {
     code = x.code;
@@ -75,17 +76,18 @@ module _ (lay : Layout) (s t : Seen) (r r' : List W) (g : Grows s t) (h : Longer
     behaviour = f.behaviour;
     behaves = behaves;
     base = f.base;
-    rom_is = f.rom_is ∙ sym rom;
-    shown = f.shown;
-    answers = answers_base f.base l.own.actor l.own.code l.own.state f.behaviour f.answers;
-    value = stands_later lay f.base f.base r r' (same_grows f.base) h l.own.message f.message.value f.value;
+    begins = record {
+      rom_is = f.begins.rom_is ∙ sym rom;
+      shown = f.begins.shown;
+      answers = answers_base f.base l.own.actor l.own.code l.own.state f.behaviour f.begins.answers;
+      message = stands_later lay f.base f.base r r' (same-grows f.base) h l.own.message f.message.value f.begins.message;
+    };
     reached = subst (λ (n : Spent). Reaches f.base (begun l.number l.own) t l n) (sym spends) (others f.reached g);
     sponsor = f.sponsor;
-    sent = f.sent;
   }
     where
       answers_base : (b : Seen) (a code state : W) (v : Value Tests) → AnswersStand lay b r a code state v → AnswersStand lay b r' a code state v
-      answers_base b a code state v (inl p) = inl (p.0, stands_later lay b b r r' (same_grows b) h state v p.1)
+      answers_base b a code state v (inl p) = inl (p.0, stands_later lay b b r r' (same-grows b) h state v p.1)
       answers_base b a code state v (inr p) = inr (h.keeps 0 a p.0, p.1, devices_base p.2, p.3)
         where
           devices_base : Devices lay b r state → Devices lay b r' state
@@ -96,6 +98,6 @@ module _ (lay : Layout) (s t : Seen) (r r' : List W) (g : Grows s t) (h : Longer
             behind_second = d.behind_second;
             begins = d.begins;
             goes_on = d.goes_on;
-            first_stands = stands_later lay b b r r' (same_grows b) h d.first _ d.first_stands;
-            second_stands = stands_later lay b b r r' (same_grows b) h d.second _ d.second_stands;
+            first_stands = stands_later lay b b r r' (same-grows b) h d.first _ d.first_stands;
+            second_stands = stands_later lay b b r r' (same-grows b) h d.second _ d.second_stands;
           }

@@ -1,5 +1,7 @@
 -- Every turn keeps that the state stands for the configuration after its journal.
-use Rattle.std.proofs.Common.{◌≡◌, ◌⊎◌, inl, inr, refl, ap, sym, subst, ◌∙◌, ℕ, ◌+◌, Bool, true, false, List, [], length, Option, Some, None, slice_get, eq-eqb, ne_eqb, arith, append-nil, if◌then◌else◌}
+use Rattle.instr_table.specs.Spent.{Spent, spent_more, unspent}
+use Rattle.vm_turn.specs.Spending.{Spending, charged_spending, go_spending, step_spending, turn_spending, unless_out_spending, with_spent}
+use Rattle.std.proofs.Common.{◌≡◌, ◌⊎◌, inl, inr, refl, ap, sym, subst, ◌∙◌, ℕ, Bool, true, false, List, [], length, Option, Some, None, slice_get, eq-eqb, ne_eqb, arith, append-nil, if◌then◌else◌}
 use Rattle.std.specs.Prelude.{◌%◌}
 use Rattle.std.proofs.lemmas.Option.{none-some, same_Some}
 use Rattle.cap_words.specs.Words.{W, same_word}
@@ -11,7 +13,7 @@ use Rattle.instr_table.specs.declared.charge.Quota.{Quota}
 use Rattle.instr_table.specs.Event.{Sent, no_effects}
 use Rattle.instr_table.specs.Sheet.{Account, account, short, spend, stop}
 use Rattle.instr_table.specs.Outcome.{Outcome, Goes, Faults, Commits}
-use Rattle.instr_table.specs.Lane.{Lane, lane_row, gone}
+use Rattle.instr_table.specs.Lane.{Lane, lane_row}
 use Rattle.vm_sponsor.specs.declared.amounts.Amounts.{Amounts}
 use Rattle.vm_turn.specs.declared.journal.Outcome.{Outcome as End}
 use Rattle.vm_turn.specs.declared.journal.Outcome.TheVariants.{Committed, Failed, RanOut}
@@ -33,26 +35,24 @@ use Rattle.hum_core.specs.TestLists.{Tests, tests_language}
 use Rattle.hum_core.specs.Bound.{Cost, bound}
 use Rattle.hum_code.specs.Layout.{Layout}
 use Rattle.hum_code.specs.Stands.{DataStand}
-use Rattle.instr_table.specs.Spent.{Spent, unspent, spent_more}
-use Rattle.hum_sim.specs.Program.{IsProgram}
-use Rattle.hum_sim.specs.Journal.{EndsAs, IsOut}
-use Rattle.hum_sim.specs.Spent.{Spending, with_spent, charged_spent, step_spent, go_spent, unless_spent as unless_spent_by, turn_spent}
-use Rattle.hum_sim.specs.Standing.{first_to, ActorStands, LaneStands, RootAlone, IsFirst, StateStands}
-use Rattle.hum_sim.specs.Legal.{SpentWithin, IsInOrder, EntersLegally}
-use Rattle.hum_sim.specs.Next.{Next}
+use Rattle.hum_code.specs.Program.{HoldsProgram}
+use Rattle.hum_sim.specs.Journal.{EndsAs, HasRunOut}
+use Rattle.hum_sim.specs.Standing.{first_to, ActorStands, LaneStands, IsFirst, StateStands}
+use Rattle.vm_turn.specs.Alone.{RootAlone}
+use Rattle.hum_sim.specs.Legal.{IsItsTurn}
+use Rattle.hum_sim.specs.Within.{SpentWithin}
+use Rattle.hum_sim.proofs.Next.{EntersLegally, Next}
 use Rattle.hum_sim.proofs.Texts.{writes_same}
 use Rattle.hum_sim.proofs.Pending.{Pending, head_found, first_least, head_least}
 use Rattle.hum_sim.proofs.Stores.{Unborn}
-use Rattle.hum_sim.proofs.Root.{root_spends, root_stops, root_prepared}
-use Rattle.hum_sim.proofs.Lanes.{lane_stands, lane_in, others_numbers, created_once, names_distinct, follows}
+use Rattle.vm_turn.proofs.Root.{root-spends, root-stops, root-prepared}
+use Rattle.hum_sim.proofs.Lanes.{lane_stands, lane_in, created_once, names_distinct, sent_under_root, follows}
 use Rattle.hum_sim.proofs.Bounds.{delivers, next_within, now_within, spent_within}
 use Rattle.hum_sim.proofs.Choosing as choosing
 use Rattle.hum_sim.proofs.Dispatches as dispatches
 use Rattle.hum_sim.proofs.Dispatches.{Targets, printed_to}
-use Rattle.hum_sim.specs.Causes.{spent_of}
-use Rattle.hum_sim.proofs.Plain.{plain-sheet}
-use Rattle.hum_sim.proofs.Payments.{spent_due, nothing_spent, spent_in, spends_due, stops_free, removed_spent, set_spent, begun_spent, same_spent}
-use Rattle.hum_sim.proofs.GoesOn.{plain, goes_on_stands}
+use Rattle.hum_code.proofs.Programs.{names_run}
+use Rattle.hum_sim.proofs.GoesOn.{goes_on_stands}
 use Rattle.hum_sim.proofs.Finishes.{finish_stands, nothing_commits}
 use Rattle.vm_turn.proofs.Taken.{every-get}
 
@@ -73,15 +73,18 @@ two_devices w d h = by (same_word w println_device) (same_word w say_device) h
 no_unborn : (s : Seen) → Unborn s []
 no_unborn s = record { are = λ w a. absurd a; once = λ w. omega arith }
 
-module _ (lay : Layout) (rom_of : RomImage) (program : IsProgram rom_of lay) {grant : Amounts} (spent : Spending) (s : State) (c : Configuration Tests)
+module _ (lay : Layout) (rom_of : RomImage) (program : HoldsProgram rom_of.boot rom_of.cells lay) {grant : Amounts} (spent : Spending) (s : State) (c : Configuration Tests)
     (ok : Sound grant s) (h : StateStands lay rom_of.cells spent s c) where
   abbrev language : Language Tests
   language = tests_language lay.units
 
-  in_order : (p : Pending) → first_to p.target c.pending ≡ Some p → (s.lanes ≡ 1 → slice_get c.pending 0 ≡ Some p) → IsInOrder s.lanes c p
+  in_order : (p : Pending) → first_to p.target c.pending ≡ Some p → (s.lanes ≡ 1 → slice_get c.pending 0 ≡ Some p) → IsItsTurn s.lanes c p
   in_order p first turn =
       let rising = choosing.rising lay rom_of program spent s c ok h in
-      record { first = first_least 0 s.next_number p.target c.pending p rising first; in_turn = λ one. head_least 0 s.next_number c.pending p rising (turn one) }
+      record {
+        to_its_target = λ n q. let l = first_least 0 s.next_number p.target c.pending p rising first q.1 q.0 q.2 q.4 in let e = q.3 in omega (arith, l, e);
+        of_all = λ one n t q. let l = head_least 0 s.next_number c.pending p rising (turn one) q.1 q.0 q.2 in let e = q.3 in omega (arith, l, e);
+      }
 
   -- ---- an event's end
 
@@ -91,7 +94,7 @@ module _ (lay : Layout) (rom_of : RomImage) (program : IsProgram rom_of lay) {gr
 
     in_turn : s.lanes ≡ 1 → slice_get c.pending 0 ≡ Some f.message
     in_turn one =
-        let a = every-get (IsFirst lay c) s.flight i l (h.in_turn one) at in
+        let a = every-get (IsFirst lay c) s.flight i l (h.flight.in_turn one) at in
         a.1 ∙ (sym (head_found c.pending a.0 l.number a.1 a.2) ∙ f.pending)
 
     abbrev charge : Charge
@@ -114,13 +117,6 @@ module _ (lay : Layout) (rom_of : RomImage) (program : IsProgram rom_of lay) {gr
     abbrev sheet' : List Account
     sheet' = spend s.sheet l.own.sponsor charge
 
-    due_paid : (kind : Quota) → spent_in kind sheet' + spent_of kind (spent l.number) ≡ spent_in kind s.sheet + spent_of kind (spent_next l.number)
-    due_paid kind =
-        let a = spends_due s.sheet s.out_of h.root kind l.own.sponsor f.sponsor charge in
-        let b = spent_due kind (spent l.number) charge in
-        let e = ap (spent_of kind) spent_here in
-        omega (arith, a, b, e)
-
     enters : (spent' : Spending) (end : Ending) (d : Configuration Tests) → Leads language c f.message end d
         → ((k : ℕ) (cost : Cost) → bound language (c, f.message) k ≡ Some cost → SpentWithin (spent' l.number) cost)
         → EntersLegally language s.lanes (spent' l.number) c (record { message = l.number; ending = end }) d
@@ -131,15 +127,15 @@ module _ (lay : Layout) (rom_of : RomImage) (program : IsProgram rom_of lay) {gr
     }
 
     commits_next : Events (finish s i l sheet' l.effects Committed) → (lane_row s.store s.sheet l).outcome ≡ Commits
-        → Next lay rom_of.cells spent spent_next s (finish s i l sheet' l.effects Committed) c
+        → Next lay rom_of.cells spent_next s (finish s i l sheet' l.effects Committed) c
     commits_next events r =
         let d = (follows lay rom_of program spent s c ok h i l at).commits l.number s.store l (spent l.number) s.sheet f.reached (names_distinct lay rom_of program spent s c ok h i l at) r in
         let own = lane_in lay rom_of program spent s c ok h i l at in
         record {
           configuration = commit c f.message d.1;
           stands = finish_stands lay rom_of program spent s c ok h i l at l.effects d.1
-              (record { are = own.unborn; once = created_once lay rom_of program spent s c ok h i l at }) own.sent f.sent d.4 spent_next others_spend
-              Committed sheet' s.out_of (root_spends s.sheet s.out_of h.root l.own.sponsor charge f.sponsor) events.sound events.targets;
+              (record { are = own.unborn; once = created_once lay rom_of program spent s c ok h i l at }) own.sent (sent_under_root lay rom_of program spent s c ok h i l at) d.4 spent_next others_spend
+              Committed sheet' s.out_of (root-spends s.sheet s.out_of h.root l.own.sponsor charge f.sponsor) events.sound events.targets;
           lanes = refl;
           step = inr (record {
             entry = entry l.number Committed;
@@ -150,21 +146,16 @@ module _ (lay : Layout) (rom_of : RomImage) (program : IsProgram rom_of lay) {gr
                 (d.0, delivers lay rom_of program spent s c ok h i l at d.0 ∙ ap (λ o. responded c f.message o) d.3) paid_within;
             out = λ e. absurd e;
           });
-          paid = λ kind.
-              let a = due_paid kind in
-              let b = removed_spent kind spent spent_next s.flight i l at others_spend (others_numbers lay rom_of program spent s c ok h i l at) in
-              omega (arith, a, b);
         }
 
     -- an end without effect
     drops : (spent' : Spending) → ((k : ℕ) → (k ≡ l.number → ⊥) → spent' k ≡ spent k) → (end : End) (ending : Ending) (sheet : List Account) (out : Option Quota)
         → RootAlone sheet out → EndsAs end ending → Leads language c f.message ending (drop c f.message)
         → ((k : ℕ) (cost : Cost) → bound language (c, f.message) k ≡ Some cost → SpentWithin (spent' l.number) cost)
-        → ((kind : Quota) → spent_in kind sheet + spent_of kind (spent l.number) ≡ spent_in kind s.sheet + spent_of kind (spent' l.number))
-        → (IsOut ending → (kind : Quota) × (out ≡ Some kind))
+        → (HasRunOut ending → (kind : Quota) × (end ≡ RanOut kind) × (out ≡ Some kind))
         → Events (record (finish s i l sheet no_effects end) { out_of = out })
-        → Next lay rom_of.cells spent spent' s (record (finish s i l sheet no_effects end) { out_of = out }) c
-    drops spent' spends end ending sheet out alone ends leads within costs outs events = record {
+        → Next lay rom_of.cells spent' s (record (finish s i l sheet no_effects end) { out_of = out }) c
+    drops spent' spends end ending sheet out alone ends leads within outs events = record {
       configuration = drop c f.message;
       stands =
           subst (StateStands lay rom_of.cells spent' (record (finish s i l sheet no_effects end) { out_of = out })) (nothing_commits c f.message)
@@ -179,32 +170,23 @@ module _ (lay : Layout) (rom_of : RomImage) (program : IsProgram rom_of lay) {gr
         enters = enters spent' ending (drop c f.message) leads within;
         out = outs;
       });
-      paid = λ kind.
-          let a = costs kind in
-          let b = removed_spent kind spent spent' s.flight i l at spends (others_numbers lay rom_of program spent s c ok h i l at) in
-          omega (arith, a, b);
     }
 
     faults_next : (w : W) → Events (finish s i l sheet' no_effects (Failed w)) → (lane_row s.store s.sheet l).outcome ≡ Faults w
-        → Next lay rom_of.cells spent spent_next s (finish s i l sheet' no_effects (Failed w)) c
+        → Next lay rom_of.cells spent_next s (finish s i l sheet' no_effects (Failed w)) c
     faults_next w events r =
         let d = (follows lay rom_of program spent s c ok h i l at).fails l.number s.store l (spent l.number) s.sheet w f.reached (names_distinct lay rom_of program spent s c ok h i l at) r in
-        drops spent_next others_spend (Failed w) (FailsWith d.1) sheet' s.out_of (root_spends s.sheet s.out_of h.root l.own.sponsor charge f.sponsor) d.4
-        (d.0, d.2, delivers lay rom_of program spent s c ok h i l at d.0 ∙ ap (λ o. responded c f.message o) d.3) paid_within due_paid (λ e. absurd e) events
+        drops spent_next others_spend (Failed w) (FailsWith d.1) sheet' s.out_of (root-spends s.sheet s.out_of h.root l.own.sponsor charge f.sponsor) d.4
+        (d.0, d.2, delivers lay rom_of program spent s c ok h i l at d.0 ∙ ap (λ o. responded c f.message o) d.3) paid_within (λ e. absurd e) events
 
     -- ---- an instruction
 
-    act_next : (o : Outcome) → Events (act s i l sheet' o).0 → (lane_row s.store s.sheet l).outcome ≡ o → Next lay rom_of.cells spent spent_next s (act s i l sheet' o).0 c
+    act_next : (o : Outcome) → Events (act s i l sheet' o).0 → (lane_row s.store s.sheet l).outcome ≡ o → Next lay rom_of.cells spent_next s (act s i l sheet' o).0 c
     act_next (Goes g) events r = record {
       configuration = c;
       stands = goes_on_stands lay rom_of program spent s c ok h i l at g r charge events.sound events.targets;
       lanes = refl;
       step = inl (refl, refl);
-      paid = λ kind.
-          let a = due_paid kind in
-          let b = set_spent kind spent spent_next s.flight i l at others_spend (others_numbers lay rom_of program spent s c ok h i l at) (gone s.store l g) refl in
-          let e = ap (spent_in kind) (plain-sheet sheet' l.own.sponsor s.store g.effect (plain lay rom_of program spent s c ok h i l at g r charge)) in
-          omega (arith, a, b, e);
     }
     act_next (Faults w) events r = faults_next w events r
     act_next Commits events r = commits_next events r
@@ -214,25 +196,24 @@ module _ (lay : Layout) (rom_of : RomImage) (program : IsProgram rom_of lay) {gr
         ≡ record (finish s i l (stop s.sheet l.own.sponsor) no_effects (RanOut kind)) { out_of = Some kind }
     out_is kind =
         let a : same_word l.own.sponsor root ≡ true = ap (λ (w : W). same_word w root) f.sponsor ∙ word_is root in
-        let b = root_prepared s.sheet s.out_of h.root l.own.sponsor f.sponsor in
+        let b = root-prepared s.sheet s.out_of h.root l.own.sponsor f.sponsor in
         ap (λ (x : Bool). out_by x kind (run_out s i l kind)) a
         ∙ ap (λ (o : Option W). record (released o kind (finish s i l (stop s.sheet l.own.sponsor) no_effects (RanOut kind))) { out_of = Some kind }) b
 
     charged_next : (o : Option Quota) → Events (charged s i l (lane_row s.store s.sheet l) o).0
-        → Next lay rom_of.cells spent (charged_spent spent l (lane_row s.store s.sheet l) o) s (charged s i l (lane_row s.store s.sheet l) o).0 c
+        → Next lay rom_of.cells (charged_spending spent l (lane_row s.store s.sheet l) o) s (charged s i l (lane_row s.store s.sheet l) o).0 c
     charged_next None events = act_next (lane_row s.store s.sheet l).outcome events refl
     charged_next (Some kind) events =
-        subst (λ (t : State). Next lay rom_of.cells spent spent s t c) (sym (out_is kind))
-        (drops spent (λ k d. refl) (RanOut kind) RunsOut (stop s.sheet l.own.sponsor) (Some kind) (root_stops s.sheet s.out_of h.root l.own.sponsor kind f.sponsor) tt refl
+        subst (λ (t : State). Next lay rom_of.cells spent s t c) (sym (out_is kind))
+        (drops spent (λ k d. refl) (RanOut kind) RunsOut (stop s.sheet l.own.sponsor) (Some kind) (root-stops s.sheet s.out_of h.root l.own.sponsor kind f.sponsor) tt refl
         (spent_within lay rom_of program spent s c ok h i l at (spent l.number) (now_within lay rom_of program spent s c ok h i l at))
-        (λ k. let a = stops_free s.sheet s.out_of h.root k l.own.sponsor f.sponsor in omega (arith, a))
-        (λ e. (kind, refl))
+        (λ e. (kind, refl, refl))
         (subst Events (out_is kind) events))
 
-  still : Next lay rom_of.cells spent spent s s c
-  still = record { configuration = c; stands = h; lanes = refl; step = inl (refl, refl); paid = λ kind. omega arith }
+  still : Next lay rom_of.cells spent s s c
+  still = record { configuration = c; stands = h; lanes = refl; step = inl (refl, refl) }
 
-  step_next : (i : ℕ) (o : Option Lane) → slice_get s.flight i ≡ o → Events (step s i o).0 → Next lay rom_of.cells spent (step_spent spent s o) s (step s i o).0 c
+  step_next : (i : ℕ) (o : Option Lane) → slice_get s.flight i ≡ o → Events (step s i o).0 → Next lay rom_of.cells (step_spending spent s o) s (step s i o).0 c
   step_next i None at events = still
   step_next i (Some l) at events = charged_next i l at (short (account s.sheet l.own.sponsor) (lane_row s.store s.sheet l).charge) events
 
@@ -254,19 +235,16 @@ module _ (lay : Layout) (rom_of : RomImage) (program : IsProgram rom_of lay) {gr
     abbrev spent' : Spending
     spent' = with_spent spent m.number unspent
 
-    begin_next : device_of x.target ≡ None → Events (begin s m.number x) → Next lay rom_of.cells spent spent' s (begin s m.number x) c
+    begin_next : device_of x.target ≡ None → Events (begin s m.number x) → Next lay rom_of.cells spent' s (begin s m.number x) c
     begin_next none events =
         let e = dispatches.begin_is lay rom_of program spent s c ok h running m chosen in
         let there = subst Events e events in
-        subst (λ (t : State). Next lay rom_of.cells spent spent' s t c) (sym e)
+        subst (λ (t : State). Next lay rom_of.cells spent' s t c) (sym e)
         (record {
           configuration = c;
           stands = dispatches.dispatch_stands lay rom_of program spent s c ok h running m chosen (sym (ap (λ (y : Sent). device_of y.target) sent_is) ∙ none) there.sound there.targets;
           lanes = refl;
           step = inl (refl, refl);
-          paid = λ kind.
-              let b = begun_spent kind spent m.number s.flight (dispatches.new lay rom_of program spent s c ok h running m chosen) (dispatches.others_numbers lay rom_of program spent s c ok h running m chosen) refl in
-              omega (arith, b);
         })
 
     -- the value is printed
@@ -288,15 +266,15 @@ module _ (lay : Layout) (rom_of : RomImage) (program : IsProgram rom_of lay) {gr
         ap (λ (b : Option (Behaviour Tests)). meaning.delivered language c p 0 b) (is_device d dev)
         ∙ ap (λ (o : Option (List ℕ)). printed c p o)
         (sym (ap (λ (y : Sent). piece d s.store y.content) sent_is
-        ∙ writes_same lay s.store s.roll data_stand program.names d (two_devices x.target d dev) known.content p.value (choosing.stands lay rom_of program spent s c ok h running m chosen).value))
+        ∙ writes_same lay s.store s.roll data_stand (names_run program) d (two_devices x.target d dev) known.content p.value (choosing.stands lay rom_of program spent s c ok h running m chosen).value))
 
     no_cost : (k : ℕ) (cost : Cost) → bound language (c, p) k ≡ Some cost → SpentWithin (spent' m.number) cost
     no_cost k cost e =
         let same : spent' m.number ≡ unspent = rw (eq-eqb m.number m.number refl) refl in
         subst (λ (n : Spent). SpentWithin n cost) (sym same) (record { cycles = omega arith; memory = omega arith; events = omega arith })
 
-    ends_next : (end : End) (ending : Ending) (bytes : List ℕ) → EndsAs end ending → (IsOut ending → ⊥) → Leads language c p ending (printed_to lay rom_of program spent s c ok h running m chosen bytes)
-        → Events (delivered s m.number end bytes) → Next lay rom_of.cells spent spent' s (delivered s m.number end bytes) c
+    ends_next : (end : End) (ending : Ending) (bytes : List ℕ) → EndsAs end ending → (HasRunOut ending → ⊥) → Leads language c p ending (printed_to lay rom_of program spent s c ok h running m chosen bytes)
+        → Events (delivered s m.number end bytes) → Next lay rom_of.cells spent' s (delivered s m.number end bytes) c
     ends_next end ending bytes ends no_out leads events = record {
       configuration = printed_to lay rom_of program spent s c ok h running m chosen bytes;
       stands = dispatches.device_stands lay rom_of program spent s c ok h running m chosen end bytes events.sound events.targets;
@@ -313,28 +291,23 @@ module _ (lay : Layout) (rom_of : RomImage) (program : IsProgram rom_of lay) {gr
         };
         out = λ e. absurd (no_out e);
       });
-      paid = λ kind.
-          let b = same_spent kind spent m.number s.flight (dispatches.others_numbers lay rom_of program spent s c ok h running m chosen) in
-          let same : spent' m.number ≡ unspent = rw (eq-eqb m.number m.number refl) refl in
-          let e = ap (spent_of kind) same ∙ nothing_spent kind in
-          omega (arith, b, e);
     }
 
     deliver_next : (d : ℕ) (o : Option (List ℕ)) → device_of x.target ≡ Some d → piece d s.store x.content ≡ o → Events (deliver s m.number o).0
-        → Next lay rom_of.cells spent spent' s (deliver s m.number o).0 c
+        → Next lay rom_of.cells spent' s (deliver s m.number o).0 c
     deliver_next d (Some bytes) dev wrote events =
         ends_next Committed after.Commits bytes tt (λ e. e) (0, prints d dev ∙ ap (λ (o : Option (List ℕ)). printed c p o) wrote) events
     deliver_next d None dev wrote events =
         ends_next refused (FailsWith 8) [] refl (λ e. e)
         (0, 0, prints d dev ∙ (ap (λ (o : Option (List ℕ)). printed c p o) wrote ∙ ap (λ (o : List ℕ). meaning.Failed 8 0 (record (drop c p) { output = o })) (sym (append-nil c.output)))) events
 
-    dispatch_next : (d : Option ℕ) → device_of x.target ≡ d → Events (dispatch s m.number x d).0 → Next lay rom_of.cells spent spent' s (dispatch s m.number x d).0 c
+    dispatch_next : (d : Option ℕ) → device_of x.target ≡ d → Events (dispatch s m.number x d).0 → Next lay rom_of.cells spent' s (dispatch s m.number x d).0 c
     dispatch_next None dev events = begin_next dev events
     dispatch_next (Some d) dev events = deliver_next d (piece d s.store x.content) dev refl events
 
   -- ---- what others have spent
 
-  step_stays : (i : ℕ) (o : Option Lane) → slice_get s.flight i ≡ o → (k : ℕ) → message_of k c.pending ≡ None → step_spent spent s o k ≡ spent k
+  step_stays : (i : ℕ) (o : Option Lane) → slice_get s.flight i ≡ o → (k : ℕ) → message_of k c.pending ≡ None → step_spending spent s o k ≡ spent k
   step_stays i None at k e = refl
   step_stays i (Some l) at k e = by (short (account s.sheet l.own.sponsor) (lane_row s.store s.sheet l).charge)
     where
@@ -343,35 +316,35 @@ module _ (lay : Layout) (rom_of : RomImage) (program : IsProgram rom_of lay) {gr
           let f = lane_stands lay rom_of program spent s c ok h i l at in
           none-some f.message (sym e ∙ (ap (λ (n : ℕ). message_of n c.pending) q ∙ f.pending))
 
-      by : (o : Option Quota) → charged_spent spent l (lane_row s.store s.sheet l) o k ≡ spent k
+      by : (o : Option Quota) → charged_spending spent l (lane_row s.store s.sheet l) o k ≡ spent k
       by (Some kind) = refl
       by None = rw (ne_eqb k l.number differs) refl
 
-  go_stays : s.out_of ≡ None → (pick : ℕ) (o : Option Message) → dispatchable s ≡ o → (k : ℕ) → message_of k c.pending ≡ None → go_spent spent s pick o k ≡ spent k
+  go_stays : s.out_of ≡ None → (pick : ℕ) (o : Option Message) → dispatchable s ≡ o → (k : ℕ) → message_of k c.pending ≡ None → go_spending spent s pick o k ≡ spent k
   go_stays running pick None chosen k e = step_stays (pick % length s.flight) (slice_get s.flight (pick % length s.flight)) refl k e
   go_stays running pick (Some m) chosen k e =
       rw (ne_eqb k m.number (λ q.
       none-some (choosing.p lay rom_of program spent s c ok h running m chosen) (sym e ∙ (ap (λ (n : ℕ). message_of n c.pending) q ∙ choosing.pending lay rom_of program spent s c ok h running m chosen)))) refl
 
-  unless_stays : (pick : ℕ) (o : Option Quota) → s.out_of ≡ o → (k : ℕ) → message_of k c.pending ≡ None → unless_spent_by spent s pick o k ≡ spent k
+  unless_stays : (pick : ℕ) (o : Option Quota) → s.out_of ≡ o → (k : ℕ) → message_of k c.pending ≡ None → unless_out_spending spent s pick o k ≡ spent k
   unless_stays pick (Some kind) r k e = refl
   unless_stays pick None r k e = go_stays r pick (dispatchable s) refl k e
 
   -- a turn changes what is spent by an event of a pending message alone
-  pub spent_stays : (pick k : ℕ) → message_of k c.pending ≡ None → turn_spent spent s pick k ≡ spent k
+  pub spent_stays : (pick k : ℕ) → message_of k c.pending ≡ None → turn_spending spent s pick k ≡ spent k
   spent_stays pick k e = unless_stays pick s.out_of refl k e
 
   -- ---- the turn
 
-  go_next : (running : s.out_of ≡ None) (pick : ℕ) (o : Option Message) → dispatchable s ≡ o → Events (go s pick o).0 → Next lay rom_of.cells spent (go_spent spent s pick o) s (go s pick o).0 c
+  go_next : (running : s.out_of ≡ None) (pick : ℕ) (o : Option Message) → dispatchable s ≡ o → Events (go s pick o).0 → Next lay rom_of.cells (go_spending spent s pick o) s (go s pick o).0 c
   go_next running pick None e events = step_next (pick % length s.flight) (slice_get s.flight (pick % length s.flight)) refl events
   go_next running pick (Some m) e events = dispatch_next running m e (device_of (sent_at s.store m.event).target) refl events
 
-  unless_next : (pick : ℕ) (o : Option Quota) → s.out_of ≡ o → Events (unless_spent s pick o).0 → Next lay rom_of.cells spent (unless_spent_by spent s pick o) s (unless_spent s pick o).0 c
+  unless_next : (pick : ℕ) (o : Option Quota) → s.out_of ≡ o → Events (unless_spent s pick o).0 → Next lay rom_of.cells (unless_out_spending spent s pick o) s (unless_spent s pick o).0 c
   unless_next pick (Some kind) e events = still
   unless_next pick None e events = go_next e pick (dispatchable s) refl events
 
-  pub turn_next : (pick : ℕ) → Next lay rom_of.cells spent (turn_spent spent s pick) s (turn s pick).0 c
+  pub turn_next : (pick : ℕ) → Next lay rom_of.cells (turn_spending spent s pick) s (turn s pick).0 c
   turn_next pick =
-      let sound = turn-flight s ok h.events pick in
+      let sound = turn-flight s ok h.flight.sound pick in
       unless_next pick s.out_of refl (record { sound = sound; targets = flight-actors (turn s pick).0 (turn-sound grant s ok pick) sound })

@@ -1,4 +1,5 @@
 -- What is so of an event in flight in a state that stands.
+use Rattle.vm_turn.specs.Spending.{Spending}
 use Rattle.std.proofs.Common.{◌≡◌, ◌⊎◌, inl, inr, refl, ap, sym, subst, ◌∙◌, ℕ, zero, suc, ◌≤◌, List, [], ◌∷◌, ◌++◌, length, Option, Some, slice_get, arith}
 use Rattle.std.specs.Prelude.{pos, remove}
 use Rattle.std.proofs.lemmas.Option.{none-some, same_Some}
@@ -10,7 +11,8 @@ use Rattle.instr_table.specs.Types.{AnActor, look_up}
 use Rattle.instr_table.specs.Lane.{Lane}
 use Rattle.instr_table.specs.Reach.{Every}
 use Rattle.vm_sponsor.specs.declared.amounts.Amounts.{Amounts}
-use Rattle.vm_turn.specs.State.{State}
+use Rattle.instr_table.specs.Event.{Sent}
+use Rattle.vm_turn.specs.State.{State, root}
 use Rattle.vm_turn.specs.Sound.{Sound, StandsIn, Other, numbers, times, created_by}
 use Rattle.vm_turn.proofs.Sums.{sum-at, how_often}
 use Rattle.vm_turn.proofs.Events.{times-cons, times-head, times-among}
@@ -27,11 +29,12 @@ use Rattle.hum_code.specs.Layout.{Layout}
 use Rattle.hum_code.specs.Emission.{Emission}
 use Rattle.hum_code.specs.Ending.{DeliveryOutcome, AreActors, FollowsDelivery}
 use Rattle.hum_code.proofs.Law.{events_follow, openings_follow}
-use Rattle.hum_sim.specs.Program.{IsProgram}
-use Rattle.hum_sim.specs.Spent.{Spending}
+use Rattle.hum_code.proofs.Programs.{messages_under_own}
+use Rattle.hum_code.specs.Program.{HoldsProgram}
 use Rattle.hum_sim.specs.Standing.{AnswersStand, ActorStands, LaneStands, StateStands}
 use Rattle.hum_sim.proofs.Lists.{every_both, each_left}
-use Rattle.hum_sim.proofs.Stores.{is_among, among_times, shown_actor}
+use Rattle.hum_sim.proofs.Stores.{shown_actor}
+use Rattle.vm_turn.proofs.Actors.{is-among, among-times}
 
 -- ---- words that are there once
 
@@ -73,11 +76,11 @@ every_among P (v ∷ ws) w e (inr a) = every_among P ws w e.1 a
 
 -- lists without a word in both
 pub both_once : (us vs : List W) → ((w : W) → times w us ≤ 1) → ((w : W) → times w vs ≤ 1) → ((w : W) → Among w us → Among w vs → ⊥) → (w : W) → times w (us ++ vs) ≤ 1
-both_once us vs f g apart w = by (is_among w us)
+both_once us vs f g apart w = by (is-among w us)
   where
     by : Among w us ⊎ (Among w us → ⊥) → times w (us ++ vs) ≤ 1
-    by (inl a) = let z = among_times w vs (apart w a) in let m = (how_often w).more us vs in let o = f w in omega (arith, z, m, o)
-    by (inr n) = let z = among_times w us n in let m = (how_often w).more us vs in let o = g w in omega (arith, z, m, o)
+    by (inl a) = let z = among-times w vs (apart w a) in let m = (how_often w).more us vs in let o = f w in omega (arith, z, m, o)
+    by (inr n) = let z = among-times w us n in let m = (how_often w).more us vs in let o = g w in omega (arith, z, m, o)
 
 -- ---- numbers
 
@@ -96,12 +99,12 @@ actors_apart s k l a b d e =
     = sym a.busy ∙ (ap (λ (w : W). slot_seen s w) e ∙ b.busy) in
     d (ap number_in both)
 
-module _ (lay : Layout) (rom_of : RomImage) (program : IsProgram rom_of lay) {grant : Amounts} (spent : Spending) (s : State) (c : Configuration Tests)
+module _ (lay : Layout) (rom_of : RomImage) (program : HoldsProgram rom_of.boot rom_of.cells lay) {grant : Amounts} (spent : Spending) (s : State) (c : Configuration Tests)
     (ok : Sound grant s) (h : StateStands lay rom_of.cells spent s c) where
   -- ---- the roll
 
   pub as_many : length s.roll ≡ length c.behaviours
-  as_many = lengths s.roll c.behaviours h.actors
+  as_many = lengths s.roll c.behaviours h.behaviours.actors
     where
       lengths : (xs : List W) (ys : List (Behaviour Tests)) → Each (ActorStands lay s.store s.roll s.flight) xs ys → length xs ≡ length ys
       lengths [] [] e = refl
@@ -113,7 +116,7 @@ module _ (lay : Layout) (rom_of : RomImage) (program : IsProgram rom_of lay) {gr
   IsActor w = (code : W) × (state : W) × (mark : W) × (slot_seen s.store w ≡ Some (ActorSlot code state mark))
 
   pub roll_actors : Every IsActor s.roll
-  roll_actors = each_left (ActorStands lay s.store s.roll s.flight) IsActor (λ w b x. (x.code, x.state, x.mark, x.there)) s.roll c.behaviours h.actors
+  roll_actors = each_left (ActorStands lay s.store s.roll s.flight) IsActor (λ w b x. (x.code, x.state, x.mark, x.there)) s.roll c.behaviours h.behaviours.actors
 
   pub is_actor : (w : W) → Among w s.roll → IsActor w
   is_actor w a = every_among IsActor s.roll w roll_actors a
@@ -121,11 +124,11 @@ module _ (lay : Layout) (rom_of : RomImage) (program : IsProgram rom_of lay) {gr
   -- ---- an event in flight
 
   pub all_stand : Every (StandsIn s.store) s.flight
-  all_stand = h.events.stands
+  all_stand = h.flight.sound.stands
 
   module _ (i : ℕ) (l : Lane) (at : slice_get s.flight i ≡ Some l) where
     pub lane_stands : LaneStands lay s.store s.roll c spent l
-    lane_stands = every-get (LaneStands lay s.store s.roll c spent) s.flight i l h.flight at
+    lane_stands = every-get (LaneStands lay s.store s.roll c spent) s.flight i l h.flight.events at
 
     pub lane_in : StandsIn s.store l
     lane_in = every-get (StandsIn s.store) s.flight i l all_stand at
@@ -144,16 +147,23 @@ module _ (lay : Layout) (rom_of : RomImage) (program : IsProgram rom_of lay) {gr
 
     -- what it created is named once, and is not on the roll
     pub created_once : (w : W) → times w (created_by l) ≤ 1
-    created_once w = let a = sum-at (λ (k : Lane). times w (created_by k)) s.flight i l at in let o = h.events.created_once w in omega (arith, a, o)
+    created_once w = let a = sum-at (λ (k : Lane). times w (created_by k)) s.flight i l at in let o = h.flight.sound.created_once w in omega (arith, a, o)
 
     pub not_on_roll : (w : W) → Among w s.roll → Among w (created_by l) → ⊥
     not_on_roll w a b = let x = is_actor w a in let y = lane_in.unborn w b in let z = x.3 in absurd cc
 
     pub names_once : (w : W) → times w (s.roll ++ created_by l) ≤ 1
-    names_once = both_once s.roll (created_by l) h.once created_once not_on_roll
+    names_once = both_once s.roll (created_by l) h.behaviours.once created_once not_on_roll
 
     pub names_distinct : Distinct (roll_with s.roll l.effects)
     names_distinct = distinct_by (s.roll ++ created_by l) names_once
+
+    -- its messages are under the root
+    pub sent_under_root : Every (λ (m : Sent). m.sponsor ≡ root) l.effects.sent
+    sent_under_root =
+        let x = lane_stands in
+        subst (λ (w : W). Every (λ (m : Sent). m.sponsor ≡ w) l.effects.sent) x.sponsor
+        (messages_under_own rom_of.boot rom_of.cells lay program x.base s.store l.number l.own l (spent l.number) x.reached h.rom_is h.code_out)
 
     -- ---- it follows its delivery
 
@@ -164,7 +174,7 @@ module _ (lay : Layout) (rom_of : RomImage) (program : IsProgram rom_of lay) {gr
     setting = record { base = f.base; own = l.own; roll = s.roll }
 
     abbrev pub emission : Emission
-    emission = record { setting = setting; layout = lay; code = program.code setting (f.rom_is ∙ h.rom_is); self = f.message.target; self_is = f.actor_is; actor_is = f.shown }
+    emission = record { setting = setting; layout = lay; code = program.code setting (f.begins.rom_is ∙ h.rom_is); self = f.message.target; self_is = f.actor_is; actor_is = f.begins.shown }
 
     -- what its delivery comes to
     abbrev pub out_by : Value Tests → ℕ → DeliveryOutcome
@@ -174,10 +184,10 @@ module _ (lay : Layout) (rom_of : RomImage) (program : IsProgram rom_of lay) {gr
     out_of = out_by f.behaviour
 
     pub follows : FollowsDelivery emission out_of
-    follows = by f.behaviour f.answers
+    follows = by f.behaviour f.begins.answers
       where
         by : (v : Value Tests) → AnswersStand lay f.base s.roll l.own.actor l.own.code l.own.state v → FollowsDelivery emission (out_by v)
-        by v (inl p) = events_follow emission v f.message.value p.0 p.1 f.value
+        by v (inl p) = events_follow emission v f.message.value p.0 p.1 f.begins.message
         by v (inr p) =
             subst (λ (x : Value Tests). FollowsDelivery emission (out_by x)) (sym p.3)
             (openings_follow emission f.message.value p.1 (record { devices = p.2; file = program.file; shape = program.shape }))

@@ -8,9 +8,9 @@ use Rattle.hum_meaning.specs.Action.{no_effects, Outcome, Gives, Fails, Undecide
 use Rattle.hum_meaning.specs.Language.{Language}
 use Rattle.hum_meaning.specs.Piece.{piece}
 use Rattle.hum_meaning.specs.Deliver.{Message, Configuration, Delivery, Committed, Failed, Open, without, numbered_from, drop, responded, printed, respond, delivered, deliver}
-use Rattle.hum_meaning.specs.After.{Ending, Commits, FailsWith, RunsOut, Entry, message_of, Leads}
-use Rattle.hum_sim.specs.Legal.{IsInOrder, FollowsLegally}
-use Rattle.hum_sim.specs.Order.{Above, InOrder, CountedFrom}
+use Rattle.hum_meaning.specs.After.{Ending, Commits, FailsWith, RunsOut, Entry, message_of, Leads, Follows}
+use Rattle.hum_core.specs.Likeness.{IsPending}
+use Rattle.hum_sim.specs.Legal.{IsItsTurn, IsLegal, LaterOnesAreGreater, InOrderOfNumbers, NumberedFrom}
 use Rattle.hum_sim.proofs.Lists.{tested, every_by}
 
 module _ {L : Parts} where
@@ -75,7 +75,7 @@ module _ {L : Parts} where
       (λ f. found_number n ps p (rw f.0 at e))
       (tested q.number n)
 
-  found_every : (P : Message L → Type 0) (n : ℕ) (ps : List (Message L)) (p : Message L) → Every P ps → message_of n ps ≡ Some p → P p
+  pub found_every : (P : Message L → Type 0) (n : ℕ) (ps : List (Message L)) (p : Message L) → Every P ps → message_of n ps ≡ Some p → P p
   found_every P n [] p h e = absurd (none-some p e)
   found_every P n (q ∷ ps) p h e =
       ⊎_elim
@@ -130,10 +130,10 @@ module _ {L : Parts} where
 
   -- ---- all numbers were given
 
-  abbrev Given : Configuration L → Type 0
+  abbrev pub Given : Configuration L → Type 0
   Given c = Every (λ (q : Message L). q.number < c.next_number) c.pending
 
-  given_next : (c d : Configuration L) (m : Message L) → Moves c m d → Given c → Given d
+  pub given_next : (c d : Configuration L) (m : Message L) → Moves c m d → Given c → Given d
   given_next c d m v g =
       let old = every-map (λ (q : Message L). (q.number < c.next_number) × (q.number ≡ m.number → ⊥)) (λ (q : Message L). q.number < d.next_number) (without m.number c.pending)
       (λ q h. let n = v.next in omega (arith, h.0, n)) (every_without (λ (q : Message L). q.number < c.next_number) m.number c.pending g) in
@@ -160,17 +160,17 @@ module _ {L : Parts} where
       }
 
   module _ (language : Language L) (lanes : ℕ) where
-    above : (n t : ℕ) (c : Configuration L) (es : List Entry) (d : Configuration L) → (f : FollowsLegally language lanes c es d) → AllAbove n t c → Above language lanes n t c es d f
+    above : (n t : ℕ) (c : Configuration L) (es : List Entry) (d : Configuration L) → (f : Follows language c es d) → AllAbove n t c → LaterOnesAreGreater language n t c es d f
     above n t c [] d f a = tt
     above n t c (e ∷ es) d f a =
-        let m = f.2.enters.message in (
-          (λ q. let k = found_every (λ (x : Message L). x.target ≡ t → n < x.number) e.message c.pending m a.pending f.2.enters.pending q in let s = found_number e.message c.pending m f.2.enters.pending in omega (arith, k, s)),
-          above n t f.0 es d f.3 (above_next n t c f.0 m (moves language c m e.ending f.0 f.2.enters.leads) a),
+        let m = f.1.message in (
+          (λ q. let k = found_every (λ (x : Message L). x.target ≡ t → n < x.number) e.message c.pending m a.pending f.1.pending q in let s = found_number e.message c.pending m f.1.pending in omega (arith, k, s)),
+          above n t f.0 es d f.2 (above_next n t c f.0 m (moves language c m e.ending f.0 f.1.leads) a),
         )
 
-    begins_above : (c d : Configuration L) (m : Message L) (k : ℕ) → m.number ≡ k → m.number < c.next_number → IsInOrder lanes c m → Moves c m d → AllAbove k m.target d
+    begins_above : (c d : Configuration L) (m : Message L) (k : ℕ) → m.number ≡ k → m.number < c.next_number → IsItsTurn lanes c m → Moves c m d → AllAbove k m.target d
     begins_above c d m k e less o v =
-        let least : Every (λ (q : Message L). q.target ≡ m.target → m.number ≤ q.number) c.pending = every_by (λ (q : Message L). q.target ≡ m.target → m.number ≤ q.number) c.pending (λ i q at. o.first i q at) in
+        let least : Every (λ (q : Message L). q.target ≡ m.target → m.number ≤ q.number) c.pending = every_by (λ (q : Message L). q.target ≡ m.target → m.number ≤ q.number) c.pending (λ i q at t. o.to_its_target q.number (q, i, at, refl, t)) in
         let old = every-map (λ (q : Message L). (q.target ≡ m.target → m.number ≤ q.number) × (q.number ≡ m.number → ⊥)) (λ (q : Message L). q.target ≡ m.target → k < q.number) (without m.number c.pending)
         (λ q h x. let a = h.0 x in let b : k ≡ q.number → ⊥ = λ y. h.1 (sym y ∙ sym e) in omega (arith, a, b, e)) (every_without (λ (q : Message L). q.target ≡ m.target → m.number ≤ q.number) m.number c.pending least) in
         let new = every-map (λ (q : Message L). (c.next_number ≤ q.number) × (q.number < c.next_number + length v.sent)) (λ (q : Message L). q.target ≡ m.target → k < q.number) (numbered_from c.next_number v.sent)
@@ -180,15 +180,15 @@ module _ {L : Parts} where
           next = let n = v.next in omega (arith, e, less, n);
         }
 
-    pub in_order : (c : Configuration L) (es : List Entry) (d : Configuration L) → (f : FollowsLegally language lanes c es d) → Given c → InOrder language lanes c es d f
-    in_order c [] d f g = tt
-    in_order c (e ∷ es) d f g =
-        let m = f.2.enters.message in
-        let v = moves language c m e.ending f.0 f.2.enters.leads in
-        let less = found_every (λ (q : Message L). q.number < c.next_number) e.message c.pending m g f.2.enters.pending in
-        let same = found_number e.message c.pending m f.2.enters.pending in (
-          above e.message m.target f.0 es d f.3 (begins_above c f.0 m e.message same less f.2.in_order v),
-          in_order f.0 es d f.3 (given_next c f.0 m v g),
+    pub in_order : (c : Configuration L) (es : List Entry) (d : Configuration L) → (f : Follows language c es d) → IsLegal language lanes c es d f → Given c → InOrderOfNumbers language c es d f
+    in_order c [] d f o g = tt
+    in_order c (e ∷ es) d f o g =
+        let m = f.1.message in
+        let v = moves language c m e.ending f.0 f.1.leads in
+        let less = found_every (λ (q : Message L). q.number < c.next_number) e.message c.pending m g f.1.pending in
+        let same = found_number e.message c.pending m f.1.pending in (
+          above e.message m.target f.0 es d f.2 (begins_above c f.0 m e.message same less o.0 v),
+          in_order f.0 es d f.2 o.1 (given_next c f.0 m v g),
         )
 
   -- ---- one lane
@@ -226,20 +226,25 @@ module _ {L : Parts} where
           let rest = without_none m.number ps (every-map (λ (q : Message L). suc k ≤ q.number) (λ (q : Message L). q.number ≡ m.number → ⊥) ps (λ q l y. absurd (omega (arith, l, y, e))) (contiguous_from (suc k) c.next_number ps x.1)) in
           rw (eq-eqb p.number m.number (x.0 ∙ sym e)) (subst (λ qs. Contiguous (suc k) (c.next_number + length v.sent) (qs ++ numbered_from c.next_number v.sent)) (sym rest) (contiguous_append (suc k) c.next_number ps v.sent x.1))
 
-  pub least_is : (k next : ℕ) (ps : List (Message L)) (m : Message L) (n : ℕ) → Contiguous k next ps → message_of n ps ≡ Some m → ((i : ℕ) (q : Message L) → slice_get ps i ≡ Some q → m.number ≤ q.number) → m.number ≡ k
-  least_is k next [] m n h found f = absurd (none-some m found)
-  least_is k next (p ∷ ps) m n h found f =
-      let a = f zero p refl in
-      let b = found_every (λ (q : Message L). k ≤ q.number) n (p ∷ ps) m (contiguous_from k next (p ∷ ps) h) found in
-      let e = h.0 in
-      omega (arith, a, b, e)
+  pub least_is : (k next : ℕ) (c : Configuration L) (m : Message L) (n : ℕ) → Contiguous k next c.pending → message_of n c.pending ≡ Some m
+      → ((number target : ℕ) → IsPending c number target → m.number ≤ number) → m.number ≡ k
+  least_is k next c m n h found f = by c.pending h found (λ i q at. f q.number q.target (q, i, at, refl, refl))
+    where
+      by : (ps : List (Message L)) → Contiguous k next ps → message_of n ps ≡ Some m → ((i : ℕ) (q : Message L) → slice_get ps i ≡ Some q → m.number ≤ q.number) → m.number ≡ k
+      by [] x e g = absurd (none-some m e)
+      by (p ∷ ps) x e g =
+          let a = g zero p refl in
+          let b = found_every (λ (q : Message L). k ≤ q.number) n (p ∷ ps) m (contiguous_from k next (p ∷ ps) x) e in
+          let y = x.0 in
+          omega (arith, a, b, y)
 
   module _ (language : Language L) (lanes : ℕ) (one : lanes ≡ 1) where
-    pub counted : (k : ℕ) (c : Configuration L) (es : List Entry) (d : Configuration L) → FollowsLegally language lanes c es d → Contiguous k c.next_number c.pending → CountedFrom k es
-    counted k c [] d f h = tt
-    counted k c (e ∷ es) d f h =
-        let m = f.2.enters.message in
-        let is = least_is k c.next_number c.pending m e.message h f.2.enters.pending (f.2.in_order.in_turn one) in (
-          sym (found_number e.message c.pending m f.2.enters.pending) ∙ is,
-          counted (suc k) f.0 es d f.3 (contiguous_next k c f.0 m e.message is f.2.enters.pending (moves language c m e.ending f.0 f.2.enters.leads) h),
+    pub counted : (k : ℕ) (c : Configuration L) (es : List Entry) (d : Configuration L) → (f : Follows language c es d) → IsLegal language lanes c es d f
+        → Contiguous k c.next_number c.pending → NumberedFrom k es
+    counted k c [] d f o h = tt
+    counted k c (e ∷ es) d f o h =
+        let m = f.1.message in
+        let is = least_is k c.next_number c m e.message h f.1.pending (o.0.of_all one) in (
+          sym (found_number e.message c.pending m f.1.pending) ∙ is,
+          counted (suc k) f.0 es d f.2 o.1 (contiguous_next k c f.0 m e.message is f.1.pending (moves language c m e.ending f.0 f.1.leads) h),
         )

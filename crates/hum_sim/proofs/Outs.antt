@@ -1,74 +1,65 @@
 -- The turn in which the root runs out.
-use Rattle.std.proofs.Common.{◌≡◌, refl, ap, sym, subst, ◌∙◌, ℕ, List, [], ◌∷◌, ◌++◌, length, Option, Some, None, slice_get}
-use Rattle.std.specs.Prelude.{◌%◌}
+use Rattle.std.proofs.Common.{◌≡◌, inl, inr, refl, ap, sym, subst, ◌∙◌, ℕ, [], ◌∷◌, ◌++◌, Option, Some, None}
 use Rattle.std.proofs.lemmas.Option.{none-some, same_Some}
-use Rattle.quad_memory.specs.Image.{RomImage}
+use Rattle.cap_words.specs.Words.{W}
 use Rattle.instr_table.specs.declared.charge.Quota.{Quota}
-use Rattle.instr_table.specs.Event.{Sent}
-use Rattle.instr_table.specs.Sheet.{Account, account, short, spend}
-use Rattle.instr_table.specs.Outcome.{Outcome, Goes, Faults, Commits}
-use Rattle.instr_table.specs.Lane.{Lane, lane_row}
-use Rattle.vm_sponsor.specs.declared.amounts.Amounts.{Amounts}
-use Rattle.vm_turn.specs.declared.journal.Outcome.TheVariants.{RanOut}
-use Rattle.vm_turn.specs.State.{Message, State}
-use Rattle.vm_turn.specs.Actors.{sent_at}
-use Rattle.vm_turn.specs.Piece.{piece}
-use Rattle.vm_turn.specs.Turn.{dispatchable, device_of, entry, deliver, dispatch, act, charged, step, go, unless_spent, turn}
-use Rattle.vm_turn.specs.Sound.{Sound}
-use Rattle.hum_meaning.specs.Deliver.{Configuration}
-use Rattle.hum_core.specs.TestLists.{Tests}
-use Rattle.hum_code.specs.Layout.{Layout}
-use Rattle.hum_sim.specs.Program.{IsProgram}
-use Rattle.hum_sim.specs.Spent.{Spending}
-use Rattle.hum_sim.specs.Standing.{StateStands}
-use Rattle.hum_sim.proofs.Keeps.{out_is}
+use Rattle.instr_table.specs.Sheet.{account, short, prepared}
+use Rattle.vm_turn.specs.declared.journal.Entry.{Entry}
+use Rattle.vm_turn.specs.declared.journal.Outcome.{Outcome as End}
+use Rattle.vm_turn.specs.declared.journal.Outcome.TheVariants.{Committed, Failed, RanOut}
+use Rattle.vm_turn.specs.declared.journal.Turn.{Turn as Answer}
+use Rattle.vm_turn.specs.declared.journal.Turn.TheVariants.{Dispatched, Stepped, Finished, Rest, Spent}
+use Rattle.vm_turn.specs.State.{State, root}
+use Rattle.vm_turn.specs.Turn.{entry, released, turn}
+use Rattle.vm_turn.specs.Changes.{Picked, next_row, Ends, Changes}
+use Rattle.vm_turn.proofs.Changed.{turns-change}
+use Rattle.hum_sim.specs.Runs.{RootIsShort}
 
--- an instruction that was due could not be paid, and its event's entry is the last
-pub record OutNow (s t : State) (kind : Quota) : Type 0 where
-  pub place : ℕ
-  pub lane : Lane
-  pub there : slice_get s.flight place ≡ Some lane
-  pub short_of : short (account s.sheet lane.own.sponsor) (lane_row s.store s.sheet lane).charge ≡ Some kind
-  pub last : t.journal ≡ s.journal ++ entry lane.number (RanOut kind) ∷ []
+-- the root is short, and the entry of the event that was picked is the last
+pub record OutNow (kind : Quota) (s : State) (pick : ℕ) : Type 0 where
+  pub is_short : RootIsShort kind s pick
+  pub last : (turn s pick).0.journal ≡ s.journal ++ entry is_short.event.lane.number (RanOut kind) ∷ []
 
-module _ (lay : Layout) (rom_of : RomImage) (program : IsProgram rom_of lay) {grant : Amounts} (spent : Spending) (s : State) (c : Configuration Tests)
-    (ok : Sound grant s) (h : StateStands lay rom_of.cells spent s c) (running : s.out_of ≡ None) where
-  act_out : (i : ℕ) (l : Lane) (sheet : List Account) (o : Outcome) → (act s i l sheet o).0.out_of ≡ s.out_of
-  act_out i l sheet (Goes g) = refl
-  act_out i l sheet (Faults w) = refl
-  act_out i l sheet Commits = refl
+module _ (s : State) (pick : ℕ) (running : s.out_of ≡ None) (kind : Quota) where
+  -- where nothing else comes of the turn, the root has not run out
+  still : (t u : State) → t ≡ u → u.out_of ≡ s.out_of → t.out_of ≡ Some kind → OutNow kind s pick
+  still t u e same out = absurd (none-some kind (sym running ∙ (sym same ∙ (sym (ap (λ (x : State). x.out_of) e) ∙ out))))
 
-  deliver_out : (n : ℕ) (o : Option (List ℕ)) → (deliver s n o).0.out_of ≡ s.out_of
-  deliver_out n (Some bytes) = refl
-  deliver_out n None = refl
+  released_out : (o : Option W) (k : Quota) (t : State) → (released o k t).out_of ≡ t.out_of
+  released_out None k t = refl
+  released_out (Some w) k t = refl
 
-  dispatch_out : (n : ℕ) (x : Sent) (d : Option ℕ) → (dispatch s n x d).0.out_of ≡ s.out_of
-  dispatch_out n x None = refl
-  dispatch_out n x (Some d) = deliver_out n (piece d s.store x.content)
+  released_journal : (o : Option W) (k : Quota) (t : State) → (released o k t).journal ≡ t.journal
+  released_journal None k t = refl
+  released_journal (Some w) k t = refl
 
-  charged_out : (i : ℕ) (l : Lane) (kind : Quota) (o : Option Quota) → slice_get s.flight i ≡ Some l → short (account s.sheet l.own.sponsor) (lane_row s.store s.sheet l).charge ≡ o
-      → (charged s i l (lane_row s.store s.sheet l) o).0.out_of ≡ Some kind → OutNow s (charged s i l (lane_row s.store s.sheet l) o).0 kind
-  charged_out i l kind None at e out = absurd (none-some kind (sym running ∙ (sym (act_out i l (spend s.sheet l.own.sponsor (lane_row s.store s.sheet l).charge) (lane_row s.store s.sheet l).outcome) ∙ out)))
-  charged_out i l kind (Some k) at e out =
-      let is = out_is lay rom_of program spent s c ok h i l at k in
-      let same : k ≡ kind = same_Some k kind (sym (ap (λ (t : State). t.out_of) is) ∙ out) in
+  ended : (t : State) (e : Entry) (end : End) → Ends s pick e end t → t.out_of ≡ Some kind → OutNow kind s pick
+  ended t e Committed (inl x) out = still t _ x.3 refl out
+  ended t e Committed (inr x) out = still t _ x.2 refl out
+  ended t e (Failed w) (inl x) out = still t _ x.3 refl out
+  ended t e (Failed w) (inr x) out = still t _ x.2 refl out
+  ended t e (RanOut k) x out = still t _ x.4 (released_out _ k _) out
+
+  changed : (a : Answer) → (turn s pick).1 ≡ a → Changes s pick a (turn s pick).0 → (turn s pick).0.out_of ≡ Some kind → OutNow kind s pick
+  changed Dispatched e x out = still (turn s pick).0 _ x.3 refl out
+  changed Stepped e x out = still (turn s pick).0 _ x.goes refl out
+  changed (Finished f) e x out = ended (turn s pick).0 f f.outcome x out
+  changed Rest e x out = still (turn s pick).0 s x.0 refl out
+  changed (Spent who k) e (by, inl x) out = absurd (none-some k (sym running ∙ x.0))
+  changed (Spent who k) e (by, inr x) out =
+      let event : Picked s pick = x.1 in
+      let same : k ≡ kind = same_Some k kind (sym (ap (λ (t : State). t.out_of) x.4) ∙ out) in
       record {
-        place = i;
-        lane = l;
-        there = at;
-        short_of = e ∙ ap Some same;
-        last = ap (λ (t : State). t.journal) is ∙ ap (λ (q : Quota). s.journal ++ entry l.number (RanOut q) ∷ []) same;
+        is_short = record {
+          event = event;
+          due = subst (λ (w : W). short (account s.sheet w) (next_row event).charge ≡ Some kind) x.3 (x.2 ∙ ap Some same);
+          answer = e ∙ (ap (λ (w : W). Spent w k) by ∙ ap (λ (q : Quota). Spent root q) same);
+        };
+        last =
+            ap (λ (t : State). t.journal) x.4
+            ∙ (released_journal (prepared s.sheet event.lane.own.sponsor) k _
+            ∙ ap (λ (q : Quota). s.journal ++ entry event.lane.number (RanOut q) ∷ []) same);
       }
 
-  step_out : (i : ℕ) (kind : Quota) (o : Option Lane) → slice_get s.flight i ≡ o → (step s i o).0.out_of ≡ Some kind → OutNow s (step s i o).0 kind
-  step_out i kind None at out = absurd (none-some kind (sym running ∙ out))
-  step_out i kind (Some l) at out = charged_out i l kind (short (account s.sheet l.own.sponsor) (lane_row s.store s.sheet l).charge) at refl out
-
-  go_out : (pick : ℕ) (kind : Quota) (o : Option Message) → (go s pick o).0.out_of ≡ Some kind → OutNow s (go s pick o).0 kind
-  go_out pick kind None out = step_out (pick % length s.flight) kind (slice_get s.flight (pick % length s.flight)) refl out
-  go_out pick kind (Some m) out = absurd (none-some kind (sym running ∙ (sym (dispatch_out m.number (sent_at s.store m.event) (device_of (sent_at s.store m.event).target)) ∙ out)))
-
-  pub turn_out : (pick : ℕ) (kind : Quota) → (turn s pick).0.out_of ≡ Some kind → OutNow s (turn s pick).0 kind
-  turn_out pick kind out =
-      let same : (turn s pick).0 ≡ (go s pick (dispatchable s)).0 = ap (λ (q : Option Quota). (unless_spent s pick q).0) running in
-      subst (λ (t : State). OutNow s t kind) (sym same) (go_out pick kind (dispatchable s) (sym (ap (λ (t : State). t.out_of) same) ∙ out))
+  pub out_now : (turn s pick).0.out_of ≡ Some kind → OutNow kind s pick
+  out_now out = changed (turn s pick).1 refl (turns-change s pick) out

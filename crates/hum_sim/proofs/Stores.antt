@@ -1,67 +1,27 @@
 -- What changes of actors leave of a store.
-use Rattle.std.proofs.Common.{◌≡◌, ◌⊎◌, inl, inr, refl, ap, sym, subst, ◌∙◌, ℕ, zero, suc, ◌≤◌, Bool, true, false, List, [], ◌∷◌, ◌++◌, Option, Some, None, slice_get, arith, append_assoc, drop}
+use Rattle.std.proofs.Common.{◌≡◌, inl, inr, refl, ap, sym, subst, ◌∙◌, ℕ, zero, suc, ◌≤◌, List, [], ◌∷◌, Option, Some, None, slice_get, arith}
 use Rattle.std.specs.Prelude.{pos}
 use Rattle.std.proofs.lemmas.Option.{none-some, same_Some, slice_get_within}
-use Rattle.cap_words.specs.Words.{W, Fix, Rom, Ram, Cap, same_word, undef}
+use Rattle.cap_words.specs.Words.{W, Fix, Rom, Ram, Cap, undef}
 use Rattle.cap_words.specs.Store.{cap_place}
-use Rattle.cap_words.specs.Seen.{Seen, Slot, OpenSlot, ActorSlot, UnbornSlot, EventSlot, SponsorSlot, SpentSlot, slot_seen, altered, grown}
+use Rattle.cap_words.specs.declared.word.Quad.{Quad}
+use Rattle.instr_table.specs.Code.{fetched_in}
+use Rattle.instr_table.specs.Making.{NoCodeInRam}
+use Rattle.vm_turn.proofs.Slots.{Alike}
+use Rattle.vm_turn.proofs.Actors.{same-grows}
+use Rattle.cap_words.specs.Seen.{Seen, open_in, Slot, OpenSlot, ActorSlot, UnbornSlot, EventSlot, SponsorSlot, SpentSlot, slot_seen, altered}
 use Rattle.cap_words.specs.Frame.{Among}
-use Rattle.cap_words.proofs.Places.{get-left, get-set_same, get-set_other}
-use Rattle.cap_words.proofs.Same.{word_same, word_differs}
+use Rattle.cap_words.proofs.Places.{get-set_same, get-set_other}
 use Rattle.instr_table.specs.Types.{AnActor, look_up, opaque_in, Grows}
 use Rattle.instr_table.specs.Event.{Made, Behaviour}
-use Rattle.instr_table.specs.Outcome.{Going}
-use Rattle.instr_table.specs.Lane.{Item, after_going}
-use Rattle.instr_table.proofs.Authorities.{pushed-store}
 use Rattle.instr_table.proofs.ShownWords.{grows-then, changes-keep}
 use Rattle.vm_effects.specs.Actors.{all_idle}
 use Rattle.vm_effects.specs.Gathered.{made_words}
-use Rattle.vm_turn.specs.Actors.{remade, at_actor, busy, resting, is_idle_in}
+use Rattle.vm_turn.specs.Actors.{remade, at_actor, busy, resting}
 use Rattle.vm_turn.specs.Sound.{times}
 use Rattle.vm_turn.proofs.Events.{times-cons, times-head, times-among}
 
--- ---- words that are there
-
-pub among_times : (w : W) (ws : List W) → (Among w ws → ⊥) → times w ws ≡ 0
-among_times w [] f = refl
-among_times w (v ∷ ws) f = by (same_word v w) refl (among_times w ws (λ a. f (inr a)))
-  where
-    by : (b : Bool) → same_word v w ≡ b → times w ws ≡ 0 → times w (v ∷ ws) ≡ 0
-    by true e h = absurd (f (inl (sym (word_same v w e))))
-    by false e h = rw e h
-
-pub is_among : (w : W) (ws : List W) → Among w ws ⊎ (Among w ws → ⊥)
-is_among w [] = inr (λ a. a)
-is_among w (v ∷ ws) = by (same_word v w) refl (is_among w ws)
-  where
-    by : (b : Bool) → same_word v w ≡ b → Among w ws ⊎ (Among w ws → ⊥) → Among w (v ∷ ws) ⊎ (Among w (v ∷ ws) → ⊥)
-    by true e h = inl (inl (sym (word_same v w e)))
-    by b e (inl a) = inl (inr a)
-    by false e (inr f) = inr no
-      where
-        no : Among w (v ∷ ws) → ⊥
-        no (inl d) = word_differs v w e (sym d)
-        no (inr a) = f a
-
 -- ---- seen after a change
-
-pub actor_other : (s : Seen) (a : W) (change : W → W → Slot) (w : W) → (w ≡ a → ⊥) → slot_seen (at_actor s a change) w ≡ slot_seen s w
-actor_other s a change (Fix n) f = refl
-actor_other s a change (Rom n) f = refl
-actor_other s a change (Ram n) f = refl
-actor_other s (Fix k) change (Cap n) f = refl
-actor_other s (Rom k) change (Cap n) f = refl
-actor_other s (Ram k) change (Cap n) f = refl
-actor_other s (Cap k) change (Cap n) f = by (slice_get s.slots k)
-  where
-    by : (o : Option Slot) → slot_seen (remade o change (Cap k) s) (Cap n) ≡ slot_seen s (Cap n)
-    by None = refl
-    by (Some (OpenSlot q)) = refl
-    by (Some (ActorSlot code state mark)) = get-set_other s.slots k n (change code state) (λ e. f (ap Cap e))
-    by (Some UnbornSlot) = refl
-    by (Some (EventSlot x y m)) = refl
-    by (Some SponsorSlot) = refl
-    by (Some SpentSlot) = refl
 
 -- an actor that is there is changed
 pub actor_is : (s : Seen) (a code state mark : W) (change : W → W → Slot) → slot_seen s a ≡ Some (ActorSlot code state mark)
@@ -99,9 +59,6 @@ altered_grows s (Cap k) (EventSlot a b m) code state mark h o = cc
 altered_grows s (Cap k) SponsorSlot code state mark h o = cc
 altered_grows s (Cap k) SpentSlot code state mark h o = cc
 
-pub same_grows : (s : Seen) → Grows s s
-same_grows s = record { keeps = λ w x h. h }
-
 -- what is seen of an actor is shown
 pub shown_actor : (s : Seen) (w : W) (x : Slot) → slot_seen s w ≡ Some x → opaque_in (Some x) ≡ Some AnActor → look_up s w ≡ Some AnActor
 unfolding look_up
@@ -117,10 +74,6 @@ pub busy_seen : (s : Seen) (a code state mark : W) (n : ℕ) → slot_seen s a �
 busy_seen s a code state mark n h =
     subst (λ (t : Seen). slot_seen t a ≡ Some (ActorSlot code state (Fix (pos n)))) (sym (actor_is s a code state mark (busy n) h))
     (altered_same s a (ActorSlot code state mark) (ActorSlot code state (Fix (pos n))) h)
-
-pub busy_grows : (s : Seen) (a code state mark : W) (n : ℕ) → slot_seen s a ≡ Some (ActorSlot code state mark) → Grows s (at_actor s a (busy n))
-busy_grows s a code state mark n h =
-    subst (Grows s) (sym (actor_is s a code state mark (busy n) h)) (altered_grows s a (ActorSlot code state mark) code state (Fix (pos n)) h refl)
 
 -- ---- idle again
 
@@ -141,11 +94,6 @@ pub resting_seen : (s : Seen) (a code state mark : W) (next : Option Behaviour) 
 resting_seen s a code state mark next h =
     subst (λ (t : Seen). slot_seen t a ≡ Some (ActorSlot (next_code next code) (next_state next state) undef)) (sym (actor_is s a code state mark (resting next) h))
     (altered_same s a (ActorSlot code state mark) (resting next code state) h ∙ ap Some (resting_is next code state))
-
-pub resting_grows : (s : Seen) (a code state mark : W) (next : Option Behaviour) → slot_seen s a ≡ Some (ActorSlot code state mark) → Grows s (at_actor s a (resting next))
-resting_grows s a code state mark next h =
-    subst (Grows s) (sym (actor_is s a code state mark (resting next) h ∙ ap (λ (x : Slot). altered s (cap_place a) x) (resting_is next code state)))
-    (altered_grows s a (ActorSlot code state mark) (next_code next code) (next_state next state) undef h refl)
 
 -- ---- actors that are committed
 
@@ -178,7 +126,7 @@ idle_other s (m ∷ ms) w u f =
     ∙ altered_other s m.actor w UnbornSlot (ActorSlot m.code m.state undef) (u.are m.actor (inl refl)) (λ e. f (inl e))
 
 pub idle_grows : (s : Seen) (ms : List Made) → Unborn s ms → Grows s (all_idle s ms)
-idle_grows s [] u = same_grows s
+idle_grows s [] u = same-grows s
 idle_grows s (m ∷ ms) u =
     grows-then s (idled s m ms u) (all_idle (idled s m ms u) ms)
     (altered_grows s m.actor UnbornSlot m.code m.state undef (u.are m.actor (inl refl)) refl)
@@ -197,27 +145,12 @@ made_among [] i m e = absurd (none-some m e)
 made_among (k ∷ ms) zero m e = inl (ap (λ (x : Made). x.actor) (sym (same_Some k m e)))
 made_among (k ∷ ms) (suc i) m e = inr (made_among ms i m e)
 
--- ---- an instruction takes quads alone
+-- ---- code
 
-pub going_seen : (s : Seen) (is : List Item) (g : Going) (w : W) (x : Slot) → slot_seen s w ≡ Some x → slot_seen (after_going s is g).0 w ≡ Some x
-going_seen s is g (Fix n) x h = cc
-going_seen s is g (Rom n) x h = cc
-going_seen s is g (Ram n) x h = cc
-going_seen s is g (Cap n) x h =
-    let p = pushed-store (grown s g.made, drop g.pops is) g.pushed in
-    let e : (after_going s is g).0.slots ≡ s.slots ++ (g.made ++ p.0) = ap (λ (t : Seen). t.slots) p.1 ∙ append_assoc s.slots g.made p.0 in
-    ap (λ (xs : List Slot). slice_get xs n) e ∙ (get-left s.slots (g.made ++ p.0) n (slice_get_within s.slots n x h) ∙ h)
-
-pub going_rom : (s : Seen) (is : List Item) (g : Going) → (after_going s is g).0.rom ≡ s.rom
-going_rom s is g = let p = pushed-store (grown s g.made, drop g.pops is) g.pushed in ap (λ (t : Seen). t.rom) p.1
-
--- ---- an idle actor is there, with no mark
-
-pub idle_there : (o : Option Slot) → is_idle_in o ≡ true → (code : W) × (state : W) × (o ≡ Some (ActorSlot code state undef))
-idle_there None h = cc
-idle_there (Some (OpenSlot q)) h = cc
-idle_there (Some (ActorSlot code state mark)) h = (code, state, ap (λ (w : W). Some (ActorSlot code state w)) (word_same mark undef h))
-idle_there (Some UnbornSlot) h = cc
-idle_there (Some (EventSlot a b m)) h = cc
-idle_there (Some SponsorSlot) h = cc
-idle_there (Some SpentSlot) h = cc
+-- no code comes into RAM where no readable cell comes
+pub code_out_alike : (s t : Seen) → Alike s t → NoCodeInRam s → NoCodeInRam t
+code_out_alike s t a out n = by (open_in (slice_get t.slots n)) refl
+  where
+    by : (o : Option Quad) → open_in (slice_get t.slots n) ≡ o → fetched_in o ≡ None
+    by None e = refl
+    by (Some q) e = sym (ap fetched_in (a.cells_of n q e)) ∙ out n

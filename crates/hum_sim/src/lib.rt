@@ -1,12 +1,18 @@
-//! When a state of the machine stands for a configuration of a program, and that each turn keeps it. No call of a program.
+//! The simulation: the machine that runs the image of a text stands for the text's configuration after its journal.
 //!
-//! The laws are functions without a body: `turns_stand` for each turn, `runs_stand` for whole runs of an image that holds a program, and
-//! `files_stand` for those of a file; `files_complete` says which files' runs come to rest, with one lane; `emitted_images_hold_programs`
-//! says which images hold programs, and `headline` and `headline_at_rest` put it together.
+//! `compile` makes the image of a text, or says why the text is refused. `Sim::turn` takes a turn of the machine that runs it, for 1 to 64
+//! events in flight. What a state stands for is in `specs/Standing.antt`, what a run keeps in `specs/Runs.antt`. The laws are functions
+//! without a body: `turns_keep_the_standing` for each turn and pick, `runs_follow_their_journals` for whole runs, `output_is_the_texts` and
+//! `runs_come_to_rest` for one lane, and `compiled_images_hold_their_files` for the images that compiled modules link to.
 #![tactic(auto)]
 
+mod compiling;
 mod laws;
+mod simulation;
 
+pub use compiling::{Compiled, compile};
 pub use laws::{
-    emitted_images_hold_programs, files_complete, files_stand, runs_stand, turns_stand,
+    compiled_images_hold_their_files, output_is_the_texts, runs_come_to_rest,
+    runs_follow_their_journals, turns_keep_the_standing,
 };
+pub use simulation::Sim;

@@ -62,7 +62,10 @@ arms-returns-in_ok-at-in-len2-up-5 t c =
     arms_done c.args.arms.now c.first-item.result c.last-item.result (shape_in c.args.scope.now) c.args.k (emitted c.args.out.now)
     (emitted c.arm-in-len2-up.new.out, c.in_ok-at-in-len2-up.at) (emitted c.last_begins.new.out, c.in_ok-at-in-len2-up-2.at)
     (emitted c.loop-i.out, c.loop-i.at) (emitted c.arm-in-len2-up-2.new.out, c.in_ok-at-in-len2-up-5.at) (emitted c.first_begins.new.out, at) c.loop-i.i
-    c.in-len2-up.len_at_least c.first-item.is c.last-item.is c.loop-i-test.false (omega arith) c.in_ok-at-in-len2-up.ensures c.in_ok-at-in-len2-up-2.ensures
+    c.in-len2-up.len_at_least c.first-item.is c.last-item.is c.loop-i-test.false (omega arith)
+    (c.in_ok-at-in-len2-up.ensures
+    ∙ ap (λ miss. arm_code c.last-item.result (shape_in c.args.scope.now) miss c.args.k (emitted c.args.out.now)) c.fail-in-len2-up.ensures)
+    c.in_ok-at-in-len2-up-2.ensures
     c.loop-i.invariant c.in_ok-at-in-len2-up-5.ensures made) c.first_begins.ensures
 
 pub tests-loop-i-preserved : goal.tests-loop-i-preserved

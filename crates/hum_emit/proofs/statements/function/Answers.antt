@@ -13,4 +13,4 @@ returns c =
     (emitted c.jump.new.self, c.in_ok-k.k) (emitted c.roll.new.self, c.in_ok-k-2.k) (emitted c.expr.new.out, c.in_ok-k-3.k)
     (emitted c.matching.new.out, c.in_ok-k-4.k) (emitted c.roll-2.new.self, at)
     (c.in_ok-within.ensures ∙ ap (λ n. with_singles n (shape_in c.args.scope.now)) c.bindings.ensures.value)
-    (c.in_ok-k.ensures k) c.in_ok-k-2.ensures c.in_ok-k-3.ensures c.in_ok-k-4.ensures made) c.roll-2.ensures
+    c.in_ok-k.ensures c.in_ok-k-2.ensures c.in_ok-k-3.ensures c.in_ok-k-4.ensures made) c.roll-2.ensures

@@ -40,5 +40,5 @@ loop-i-preserved c =
 pub returns : goal.returns
 returns c = λ k.
     statements_done c.args.statements.now c.args.shape.now k (emitted c.args.out.now) (emitted c.jump.new.self, c.in_ok-k.k)
-    (emitted c.drop.new.self, c.in_ok-at.at) (emitted c.loop-i.out, c.loop-i.at) c.loop-i.i c.loop-i-test.false (c.in_ok-k.ensures k) c.in_ok-at.ensures
+    (emitted c.drop.new.self, c.in_ok-at.at) (emitted c.loop-i.out, c.loop-i.at) c.loop-i.i c.loop-i-test.false c.in_ok-k.ensures c.in_ok-at.ensures
     c.loop-i.invariant.1

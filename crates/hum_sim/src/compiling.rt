@@ -1,0 +1,109 @@
+// From a text to its image.
+
+ghost use Rattle.std.specs.Prelude.{◌≡◌, ◌∷◌, [], IfOk, IfErr};
+ghost use Rattle.uasm_read.specs.Links.{Linked};
+ghost use Rattle.hum_core.specs.Programs as programs;
+ghost use Rattle.hum_emit.specs.Compiled.{compiled_module};
+ghost use Rattle.hum_meaning.specs.Scope.{Scoped};
+ghost use Rattle.hum_front.specs.Accepted.{Accepted, Fails};
+ghost use Rattle.hum_sim.specs.Compiled.{IsCompiled, HoldsItsTree};
+
+use hum_core::Program;
+use hum_emit::emit;
+use hum_front::{Reading, StartError, read_text};
+use hum_match::lower;
+use hum_syntax::Tree;
+use quad_memory::Image;
+use std::alloc::{AllocError as NoMemory, Global};
+use std::marker::Model;
+use uasm_link::link;
+
+/// What a program's text is compiled to: its tree, its program, and the image of the code of that.
+///
+/// The tree is that of a text that is accepted, the program is the tree's, and the image is what the program's module links to.
+#[derive(Drop)]
+pub struct Compiled {
+    tree: Tree,
+    program: Program,
+    image: Image,
+}
+
+impl Model for Compiled {
+    ghost use Rattle.std.specs.Coded.{codes};
+    ghost use Rattle.hum_syntax.specs.contracts.tree.Stmt as stmt;
+    ghost use Rattle.hum_core.specs.contracts.tested.TestUnit as unit;
+    ghost use Rattle.hum_sim.specs.Compiled.{Compiled as Shown, IsCompiled};
+
+    ghost Value = { Shown };
+
+    ghost coded = { Prim.hlevel (codes, stmt.the_row.coded, unit.the_row.coded) };
+
+    ghost view = { λ c. record { tree = c.tree; units = c.program.units; image = c.image } };
+
+    ghost invariant = { λ c. IsCompiled c.tree c.program.units c.image };
+}
+
+impl Compiled {
+    /// The tree.
+    pub fn tree(&self) -> &Tree
+        ensures { result.now ≡ self.now.tree }
+    {
+        &self.tree
+    }
+
+    /// The program of the tree, with slots for names and tests for patterns.
+    pub fn program(&self) -> &Program
+        ensures { result.now.units ≡ self.now.units }
+    {
+        &self.program
+    }
+
+    /// The image. It holds the program of the tree.
+    pub fn image(&self) -> &Image
+        ensures value { result.now ≡ self.now.image }
+        ensures compiled { IsCompiled self.now.tree self.now.units self.now.image }
+        ensures holds { HoldsItsTree self.now.tree self.now.units self.now.image }
+    {
+        &self.image
+    }
+}
+
+// The image of a tree's program. Want of memory is the only error.
+fn image_of(alloc: Global, tree: &Tree, program: &Program) -> Result<Image, NoMemory>
+    requires scoped { Scoped tree.now.statements }
+    requires units { program.now.units ≡ programs.program tree.now.statements }
+    ensures { IfOk result (λ image. Linked (compiled_module program.now.units ∷ []) image.boot image.cells) }
+{
+    let module = emit(alloc, program)?;
+    let modules = [module];
+    match link(alloc, &modules) {
+        Ok(image) => Ok(image),
+        Err(_) => Err(NoMemory),
+    }
+}
+
+/// The program of a text that is accepted, and its image; else why the text is refused, and where. All causes come in their order: its
+/// length, its tokens, its tree, its names.
+///
+/// Each text is accepted, with one tree, or refused, in one way, and none is both. A call may answer `NoMemory` whatever the text is, and
+/// it takes stack for each level of the tree.
+pub fn compile(alloc: Global, bytes: &[u8]) -> Result<Compiled, StartError>
+    ensures accepted { IfOk result (λ c. Accepted bytes.now c.tree) }
+    ensures fails { IfErr result (Fails bytes.now) }
+{
+    let Reading { tree, resolved } = match read_text(alloc, bytes) {
+        Ok(reading) => reading,
+        Err(e) => return Err(e),
+    };
+    let Ok(program) = lower(alloc, &resolved) else {
+        return Err(StartError::NoMemory);
+    };
+    match image_of(alloc, &tree, &program) {
+        Ok(image) => Ok(Compiled {
+            tree,
+            program,
+            image,
+        }),
+        Err(_) => Err(StartError::NoMemory),
+    }
+}

@@ -1,5 +1,0 @@
-use Rattle.hum_whole.proofs.Standing.{fits}
-use Rattle.hum_whole.proofs.compiling.image_of.Goals as goal
-
-pub emit-requires : goal.emit-requires
-emit-requires c = fits c.args.tree.now c.args.program.now.units c.requires.scoped c.requires.units
