@@ -9,7 +9,7 @@ ghost use Rattle.hum_emit.specs.Runtime.{apply_place, routine_places};
 ghost use Rattle.hum_emit.specs.Shapes as shaped;
 ghost use Rattle.hum_emit.specs.Templates.{push_data, boot_code, units_code};
 
-use crate::emitter::{Emitter, FUNCTION_TYPE, operand};
+use crate::emitter::{Emitter, FUNCTION_TYPE, NIL, operand};
 use crate::instruction::{Datum, Field, Instruction};
 use crate::module::module_of;
 use crate::routines::Routines;
