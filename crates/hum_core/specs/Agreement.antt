@@ -96,7 +96,7 @@ resolving = record {
   ReferenceAs = λ scope x slot. slot_of scope x ≡ Some slot;
   marks = names_of;
   PatternNodeAs = λ r scope p q. PatternNodeAs r scope (out-Pat p) (out-CorePat q);
-  ChoiceAs = ArmsAs names_of;
+  ChoiceAs = ArmsAs (Named written) Core names_of;
 }
 
 -- ---- whole trees

@@ -79,7 +79,7 @@ lowering = record {
   ReferenceAs = λ scope x y. x ≡ y;
   marks = marks_of;
   PatternNodeAs = λ r scope p ts. TestsAs r scope (out-CorePat p) ts;
-  ChoiceAs = ArmsAs marks_of;
+  ChoiceAs = ArmsAs Core Tests marks_of;
 }
 
 -- which trees of the first units the second ones stand for

@@ -15,9 +15,9 @@ pub record Linking (L K : Parts) : Type 1 where
   pub ChoiceAs : (Scope L → L.Expr → K.Expr → Type 0) → (Scope L → L.Pattern → K.Pattern → Type 0) → Scope L → L.Choice → K.Choice → Type 0
 
 -- a choice by arms, one after the other
-abbrev pub ArmsAs : {L K : Parts} → (L.Pattern → List L.Mark) → (Scope L → L.Expr → K.Expr → Type 0) → (Scope L → L.Pattern → K.Pattern → Type 0)
+abbrev pub ArmsAs : (L K : Parts) → (L.Pattern → List L.Mark) → (Scope L → L.Expr → K.Expr → Type 0) → (Scope L → L.Pattern → K.Pattern → Type 0)
     → Scope L → List (L.Pattern × L.Expr) → List (K.Pattern × K.Expr) → Type 0
-ArmsAs marks ExprAs PatternAs scope = Each (λ a b. PatternAs scope a.0 b.0 × ExprAs (with_marks (marks a.0) scope) a.1 b.1)
+ArmsAs L K marks ExprAs PatternAs scope = Each (λ a b. PatternAs scope a.0 b.0 × ExprAs (with_marks (marks a.0) scope) a.1 b.1)
 
 -- the relations of a reading that go by depth
 pub record Relations (L K : Parts) : Type 1 where
