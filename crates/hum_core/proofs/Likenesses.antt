@@ -1,5 +1,5 @@
 -- What stands for one another by a reading means the same, with the same steps and bounds.
-use Rattle.std.proofs.Common.{◌≡◌, refl, sym, subst, ◌∙◌, ℕ, ◌+◌, ◌≤◌, List, [], ◌∷◌, map, Option, Some, None, arith, slice_get}
+use Rattle.std.proofs.Common.{◌≡◌, refl, sym, subst, ◌∙◌, ℕ, ◌+◌, ◌≤◌, List, [], ◌∷◌, map, arith, slice_get}
 use Rattle.std.specs.List.{sum}
 use Rattle.std.proofs.lemmas.List.Sums.{sum_by-cons}
 use Rattle.hum_meaning.specs.Value.{Parts}
@@ -7,10 +7,9 @@ use Rattle.hum_meaning.specs.Language.{Language}
 use Rattle.hum_meaning.specs.Deliver.{Message, Configuration, Delivery, Committed, Failed, Open, deliver}
 use Rattle.hum_meaning.specs.Laws.{IsClosed}
 use Rattle.hum_core.specs.Alike.{Both, Each, Reading}
-use Rattle.hum_core.specs.Bound.{Cost, Fit, BoundsAgree}
+use Rattle.hum_core.specs.Bound.{Cost, Fit}
 use Rattle.hum_core.specs.Configurations.{BehaviourAs, MessageAs, ConfigurationAs, DeliveryAs, DeliverAlike}
-use Rattle.hum_core.specs.Journals.{JournalsAlike}
-use Rattle.hum_core.specs.Likeness.{Likeness, IsPending, SeenAlike, IsAtMost, EventsAs, EndsAs, KeepsDeliveries, KeepsJournals, KeepsBounds, MeansTheSame}
+use Rattle.hum_core.specs.Likeness.{IsPending, SeenAlike, IsAtMost, EndsAs, KeepsDeliveries, KeepsJournals, KeepsBounds, MeansTheSame}
 use Rattle.hum_core.specs.Programs.{by_reading}
 use Rattle.hum_core.proofs.Acts.{each_length}
 use Rattle.hum_core.proofs.Delivered.{each_at}
@@ -95,13 +94,13 @@ module _ {L K : Parts} (r : Reading L K) where
 
   ends_forth : (x : Delivery L) (y : Delivery K) → IsClosed x → DeliveryAs r x y → EndsAs (by_reading r) x y
   ends_forth (Committed c) (Committed d) o h = h
-  ends_forth (Failed code n c) (Failed code' n' d) o h = (h.0, h.2)
+  ends_forth (Failed code n c) (Failed code' n' d) o h = h
   ends_forth Open y o h = absurd o
   ends_forth _ _ o h = absurd h
 
   ends_back : (x : Delivery L) (y : Delivery K) → IsClosed y → DeliveryAs r x y → EndsAs (by_reading r) x y
   ends_back (Committed c) (Committed d) o h = h
-  ends_back (Failed code n c) (Failed code' n' d) o h = (h.0, h.2)
+  ends_back (Failed code n c) (Failed code' n' d) o h = h
   ends_back x Open o h = absurd o
   ends_back _ _ o h = absurd h
 

@@ -5,10 +5,10 @@ use Rattle.hum_meaning.specs.After as after
 use Rattle.hum_meaning.specs.Written.{humus}
 use Rattle.hum_core.specs.Agreement.{Resolution}
 use Rattle.hum_core.specs.CoreTrees.{core_language}
-use Rattle.hum_core.specs.Likeness.{Likeness, MeansTheSame}
+use Rattle.hum_core.specs.Likeness.{MeansTheSame}
 use Rattle.hum_core.specs.Lowering.{Lowered}
 use Rattle.hum_core.specs.Openings.{opening}
-use Rattle.hum_core.specs.Programs.{program, program_language, by_reading, FileAs, ProgramMeansFile, ProgramsMeanTheirFiles}
+use Rattle.hum_core.specs.Programs.{program, program_language, by_reading, FileAs, ProgramsMeanTheirFiles}
 use Rattle.hum_core.specs.Units.{resolved}
 use Rattle.hum_core.proofs.Meant.{resolved_means, lowered_means}
 use Rattle.hum_core.proofs.Opened.{resolved_opening, tested_opening}

@@ -1,5 +1,5 @@
 -- Where a second language means what a first one does, and a third one what the second does, the third means what the first does.
-use Rattle.std.proofs.Common.{◌≡◌, ◌∙◌, ℕ, ◌≤◌, List, [], ◌∷◌, Option, Some, None, arith}
+use Rattle.std.proofs.Common.{◌∙◌, List, [], ◌∷◌, Option, Some, None, arith}
 use Rattle.hum_meaning.specs.Value.{Parts}
 use Rattle.hum_meaning.specs.Language.{Language}
 use Rattle.hum_meaning.specs.Deliver.{Message, Configuration, Delivery, Committed, Failed, Open, deliver}
@@ -45,7 +45,7 @@ module _ {L K J : Parts} (a : Likeness L K) (b : Likeness K J) where
 
   ends_through : (u : Delivery L) (v : Delivery K) (w : Delivery J) → EndsAs a u v → EndsAs b v w → EndsAs (through a b) u w
   ends_through (Committed c) (Committed d) (Committed e) h k = (d, h, k)
-  ends_through (Failed code n c) (Failed code' n' d) (Failed code'' n'' e) h k = (h.0 ∙ k.0, (d, h.1, k.1))
+  ends_through (Failed code n c) (Failed code' n' d) (Failed code'' n'' e) h k = (h.0 ∙ k.0, h.1 ∙ k.1, (d, h.2, k.2))
   ends_through (Committed c) (Committed d) _ h k = absurd k
   ends_through (Failed code n c) (Failed code' n' d) _ h k = absurd k
   ends_through _ _ w h k = absurd h

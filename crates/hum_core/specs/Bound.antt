@@ -1,5 +1,5 @@
 -- What the delivery of a message may cost.
-use Rattle.std.specs.Prelude.{◌≡◌, ◌↔◌, ℕ, ◌+◌, ◌-◌, ◌*◌, ◌≤◌, List, map, length, sum, Option, Some, None, slice_get}
+use Rattle.std.specs.Prelude.{◌≡◌, ◌↔◌, ℕ, suc, ◌+◌, ◌-◌, ◌*◌, ◌≤◌, List, map, length, sum, Option, Some, None, slice_get}
 use Rattle.std.specs.Option.{option_map}
 use Rattle.hum_meaning.specs.Value.{Parts, Value, Answers}
 use Rattle.hum_meaning.specs.Action.{Effects, no_effects, Gives}
@@ -14,9 +14,13 @@ pub record Cost : Type 0 where
   pub memory : ℕ
   pub events : ℕ
 
--- 64 cycles and 64 quads for each step and for one step more, and one event for each message that is gathered
+-- so many cycles, and so many quads: 64 for each step and for one step more
+abbrev pub most_for : (steps : ℕ) → ℕ
+most_for steps = 64 * suc steps
+
+-- and one event for each message that is gathered
 abbrev pub cost_of : (steps sends : ℕ) → Cost
-cost_of steps sends = record { cycles = 64 * (steps + 1); memory = 64 * (steps + 1); events = sends }
+cost_of steps sends = record { cycles = most_for steps; memory = most_for steps; events = sends }
 
 -- The number of messages that a delivery in a configuration gathered, where it is decided. Those of a delivery that commits take the next
 -- numbers.

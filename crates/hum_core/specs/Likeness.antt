@@ -49,10 +49,11 @@ module _ {L K : Parts} (a : Likeness L K) where
   abbrev pub EventsAs : Event L → Event K → Type 0
   EventsAs e d = a.Configurations e.0 d.0 × a.Messages e.1 d.1
 
-  -- Both deliveries are decided, and end the same way: they commit, or they fail with the same code, and leave configurations that are alike.
+  -- Both deliveries are decided, and end the same way: they commit, or they fail with the same code and as many messages gathered; and they
+  -- leave configurations that are alike.
   abbrev pub EndsAs : Delivery L → Delivery K → Type 0
   EndsAs (Committed c) (Committed d) = a.Configurations c d
-  EndsAs (Failed code sends c) (Failed code' sends' d) = (code ≡ code') × a.Configurations c d
+  EndsAs (Failed code sends c) (Failed code' sends' d) = (code ≡ code') × (sends ≡ sends') × a.Configurations c d
   EndsAs _ _ = ⊥
 
   module _ (l : Language L) (k : Language K) where

@@ -36,7 +36,8 @@ by_reading r = record { Configurations = ConfigurationAs r; Messages = MessageAs
 abbrev pub FileAs : List Stmt → Likeness (Named written) Tests
 FileAs file = through (by_reading (Resolution (resolved file))) (by_reading (Lowered (resolved file) (program file)))
 
--- a file's program begins alike and means the same, so a journal leads to a configuration of the one where it leads to one of the other
+-- A file's program begins alike and means the same. What follows: a journal leads to a configuration of the one where it leads to one of the
+-- other that is alike.
 pub record ProgramMeansFile (file : List Stmt) : Type 0 where
   pub opens : (FileAs file).Configurations (after.opening file) opening
   pub means : MeansTheSame (FileAs file) humus (program_language file)

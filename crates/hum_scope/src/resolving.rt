@@ -32,8 +32,8 @@ fn units(alloc: Global, statements: &[Stmt]) -> Result<Items<CoreUnit>, AllocErr
 }
 
 /// The numbered tree of a program whose names are all bound, once and within the limit; else the first that is refused, by the number of
-/// names before it. The program stands for its numbered tree, and what stands for one another means the same: the same steps decide it, with
-/// outcomes that are alike, and messages are delivered alike.
+/// names before it. The program stands for its numbered tree (`stands`), and what stands for one another by these units means the same
+/// (`meaning`): the same steps decide it, with outcomes that are alike, and messages are delivered alike.
 ///
 /// Only want of memory is another answer. It may be given, too, where a program has more than 2^32 - 1 names or units, or a group or a scope
 /// has more. The call takes stack for each level of the tree.
