@@ -11,7 +11,8 @@ use Rattle.hum_meaning.specs.Action.{Gives, Fails, Undecided}
 use Rattle.hum_meaning.specs.Laws.{IsDecided}
 use Rattle.hum_code.specs.Bounds.{Limits, limits}
 use Rattle.hum_code.specs.Comes.{Point, point, row_of, NamesOnce, Comes, here, onward, never}
-use Rattle.hum_code.specs.Reaches.{Spent, seen_at, Reaches}
+use Rattle.instr_table.specs.Spent.{Spent}
+use Rattle.hum_code.specs.Reaches.{seen_at, Reaches}
 use Rattle.hum_code.specs.Emission.{Emission}
 use Rattle.hum_code.proofs.World.{same}
 use Rattle.hum_code.proofs.Standing.{Gathered}

@@ -10,7 +10,8 @@ use Rattle.hum_meaning.specs.Action.{Gives, Fails, Undecided}
 use Rattle.hum_meaning.specs.Laws.{IsDecided}
 use Rattle.hum_code.specs.Bounds.{limits}
 use Rattle.hum_code.specs.Comes.{Point, point, moved, roll_with, row_of, NamesOnce, here, onward, never}
-use Rattle.hum_code.specs.Reaches.{Spent, spent_more, seen_at, Reaches}
+use Rattle.instr_table.specs.Spent.{Spent, spent_more}
+use Rattle.hum_code.specs.Reaches.{seen_at, Reaches}
 use Rattle.hum_code.specs.Emission.{Emission}
 use Rattle.hum_code.specs.Ending.{DeliveryOutcome, sends_of, IsWithin, AreActors, EndsSo, FollowsDelivery}
 use Rattle.hum_code.proofs.World.{same, later, takes}

@@ -47,3 +47,5 @@ pub mod Alone
 pub mod SendBounds
 pub mod Following
 pub mod Law
+pub mod SentUnder
+pub mod Programs

@@ -14,7 +14,8 @@ use Rattle.instr_table.proofs.Authorities.{pushed-store}
 use Rattle.instr_table.proofs.ShownWords.{shown-stays}
 use Rattle.hum_code.specs.WordLists.{Distinct, pushed_on}
 use Rattle.hum_code.specs.Comes.{Setting, Point, moved, more_events, roll_with, row_of, NamesOnce, Comes, here, onward, never}
-use Rattle.hum_code.specs.Reaches.{Spent, unspent, spent_more, seen_at, Reaches, dispatched, others, stepped}
+use Rattle.instr_table.specs.Spent.{Spent, unspent, spent_more}
+use Rattle.hum_code.specs.Reaches.{seen_at, Reaches, dispatched, others, stepped}
 use Rattle.hum_code.proofs.World.{same, later, takes}
 use Rattle.hum_code.proofs.Composing.{comes_later}
 use Rattle.hum_code.proofs.Standing.{Longer, longer_same, longer_eq}

@@ -1,6 +1,6 @@
 -- Which instructions stand for an expression, for tests, for statements and for units. In a comment `S` is a stack that is not looked
 -- into, with the top on the right; `env` is a word that stands for an environment.
-use Rattle.std.specs.Prelude.{◌≡◌, ℕ, zero, suc, pos, negsuc, true, false, List, [], ◌∷◌, map, Option, Some, None, slice_get}
+use Rattle.std.specs.Prelude.{◌≡◌, ℕ, zero, suc, pos, negsuc, true, false, List, [], ◌∷◌, map, fold, Option, Some, None, slice_get}
 use Rattle.cap_words.specs.Words.{W, undef, nil, truth, pair_t, func_t, block_t, actor_t}
 use Rattle.cap_words.specs.Seen.{Seen}
 use Rattle.instr_table.specs.declared.op.Op.{Op}
@@ -51,8 +51,7 @@ bound_behind test.Bind n = suc n
 bound_behind _ n = n
 
 abbrev pub bound_after : List Test → ℕ → ℕ
-bound_after [] n = n
-bound_after (t ∷ ts) n = bound_after ts (bound_behind (out-Test t) n)
+bound_after ts n = fold (λ before t. bound_behind (out-Test t) before) n ts
 
 -- What stands for expressions and for tests: in a shape, from a to k. Tests are of that many values and stand where there are n bindings; one
 -- that fails goes to miss.

@@ -14,7 +14,8 @@ use Rattle.hum_core.specs.TestLists.{Tests}
 use Rattle.hum_code.specs.WordLists.{Distinct}
 use Rattle.hum_code.specs.Comes.{roll_with, NamesOnce}
 use Rattle.hum_code.specs.Stands.{EffectsStand}
-use Rattle.hum_code.specs.Reaches.{Spent, spent_more, Reaches}
+use Rattle.instr_table.specs.Spent.{Spent, spent_more}
+use Rattle.hum_code.specs.Reaches.{Reaches}
 use Rattle.hum_code.specs.Emission.{Emission}
 
 -- the outcome of a delivery

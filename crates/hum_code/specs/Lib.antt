@@ -7,6 +7,7 @@ pub mod Code
 pub mod Runtime
 pub mod Emission
 pub mod Opening
+pub mod Program
 pub mod Bounds
 pub mod Ending
 pub mod Laws

@@ -1,25 +1,12 @@
 -- What the rows of the table reach from an event's dispatch, whatever others add between.
-use Rattle.std.specs.Prelude.{◌≡◌, ℕ, suc, ◌+◌, List}
+use Rattle.std.specs.Prelude.{◌≡◌, List}
 use Rattle.cap_words.specs.Seen.{Seen}
-use Rattle.instr_table.specs.declared.charge.Charge.{Charge}
+use Rattle.instr_table.specs.Spent.{Spent, unspent, spent_more}
 use Rattle.instr_table.specs.Types.{Grows}
 use Rattle.instr_table.specs.Sheet.{Account}
 use Rattle.instr_table.specs.Outcome.{Going, Goes}
 use Rattle.instr_table.specs.Lane.{Lane, values, after_going, lane_row, gone}
 use Rattle.hum_code.specs.Comes.{Point}
-
--- what an event was charged since its dispatch
-pub record Spent : Type 0 where
-  pub cycles : ℕ
-  pub quads : ℕ
-  pub events : ℕ
-
-abbrev pub unspent : Spent
-unspent = record { cycles = 0; quads = 0; events = 0 }
-
--- with one more instruction
-abbrev pub spent_more : Spent → Charge → Spent
-spent_more n c = record { cycles = suc n.cycles; quads = c.quads + n.quads; events = c.events + n.events }
 
 -- an event in flight as its code sees it
 abbrev pub seen_at : Lane → Spent → Point

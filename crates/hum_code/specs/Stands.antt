@@ -1,8 +1,9 @@
 -- Which words stand for which values, environments and effects.
-use Rattle.std.specs.Prelude.{◌≡◌, ℕ, pos, List, [], ◌∷◌, Some, slice_get}
+use Rattle.std.specs.Prelude.{◌≡◌, ℕ, pos, true, List, [], ◌∷◌, Some, slice_get}
 use Rattle.cap_words.specs.declared.word.Quad.{Quad}
 use Rattle.cap_words.specs.Words.{W, Fix, undef, nil, truth, symbol_t, func_t, block_t, same_word}
 use Rattle.cap_words.specs.Seen.{Seen}
+use Rattle.cap_words.specs.Text.{is_run}
 use Rattle.std.specs.Str.{bytes_eq}
 use Rattle.instr_table.specs.Types.{Readable, AnActor, look_up}
 use Rattle.instr_table.specs.Lists.{pair_quad}
@@ -77,9 +78,10 @@ pub record EffectsStand (lay : Layout) (roll : List W) (s : Seen) (f : action.Ef
   pub sent : Each (SentStands lay s (roll_with roll e)) f.sent e.sent
   pub next : Both (NextStands lay s (roll_with roll e)) f.next e.next
 
--- what the image has of symbols and of the built-in functions: a name has one symbol cell at most, with the list of its bytes; a built-in
--- function's cell has its code, and its number in place of an environment
+-- what the image has of symbols and of the built-in functions: a name is a run, and has one symbol cell at most, with the list of its bytes;
+-- a built-in function's cell has its code, and its number in place of an environment
 pub record DataStand (lay : Layout) (s : Seen) : Type 0 where
+  pub runs : (name : List ℕ) (w : W) → lay.symbol name ≡ Some w → is_run name ≡ true
   pub symbols : (name : List ℕ) (w : W) → lay.symbol name ≡ Some w
       → (bytes : W) × Shows s w (three_quad symbol_t bytes undef) × Stands lay s [] bytes (text_value name)
   pub names : (a b : List ℕ) (v w : W) → lay.symbol a ≡ Some v → lay.symbol b ≡ Some w → same_word v w ≡ bytes_eq a b

@@ -29,5 +29,9 @@ pub mod ScopedFiles
 pub mod Likenesses
 pub mod Through
 pub mod Programs
+pub mod Sums
+pub mod SizedNodes
+pub mod SizedParts
+pub mod SizedUnits
 mod Examples
 mod BoundExamples

@@ -11,6 +11,7 @@ pub mod Journals
 pub mod Lowering
 pub mod Lists
 pub mod Units
+pub mod Sizes
 pub mod Bound
 pub mod Likeness
 pub mod Programs

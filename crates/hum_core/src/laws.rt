@@ -2,6 +2,7 @@
 
 ghost use Rattle.hum_core.specs.Laws.{ResolvedDecisionsStay, TestedDecisionsStay, ResolvedTreesMeanTheSame, LoweredTreesMeanTheSame, FormedTreesStand, ProgramsBeginAlike, ResolvedTreesAreFormed, BoundsAreTheSame, BoundsCountStepsAndSends, ScopedFilesStand};
 ghost use Rattle.hum_core.specs.Programs.{ProgramsMeanTheirFiles};
+ghost use Rattle.hum_core.specs.Sizes.{ProgramsAreSmall};
 
 /// A written tree means what the numbered one does that it stands for: for environments that are alike and every number of steps the outcomes
 /// of evaluation, matching and execution are alike, failures and undecided ones included, with as many steps left. So messages are delivered
@@ -65,4 +66,9 @@ pub fn bounds_count_steps_and_sends()
 /// configurations that are alike, in both directions.
 pub fn programs_mean_their_files()
     ensures { ProgramsMeanTheirFiles }
+{}
+
+/// The numbered program of a file, with its patterns as tests, is at most three times as large as the file's tree, and one more.
+pub fn programs_are_small()
+    ensures { ProgramsAreSmall }
 {}

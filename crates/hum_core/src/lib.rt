@@ -16,6 +16,8 @@
 //! What stands above a compiler needs one law of these, of a whole file and its program: `programs_mean_their_files` (`specs/Programs.antt`,
 //! over `specs/Likeness.antt`). It names neither numbered tree, speaks of what can be seen alone, and lets a program take fewer steps than its
 //! file.
+//!
+//! `specs/Sizes.antt` says how large a numbered program is: at most three times as large as its file, and one more (`programs_are_small`).
 #![tactic(auto)]
 
 mod laws;
@@ -25,9 +27,9 @@ mod tested;
 
 pub use laws::{
     bounds_are_the_same, bounds_count_steps_and_sends, formed_trees_stand,
-    lowered_trees_mean_the_same, programs_begin_alike, programs_mean_their_files,
-    resolved_decisions_stay, resolved_trees_are_formed, resolved_trees_mean_the_same,
-    scoped_files_stand, tested_decisions_stay,
+    lowered_trees_mean_the_same, programs_are_small, programs_begin_alike,
+    programs_mean_their_files, resolved_decisions_stay, resolved_trees_are_formed,
+    resolved_trees_mean_the_same, scoped_files_stand, tested_decisions_stay,
 };
 pub use resolved::{CoreArm, CoreBranch, CoreExpr, CorePat, CoreStmt, CoreUnit, Resolved};
 pub use slot::{Const, Slot};

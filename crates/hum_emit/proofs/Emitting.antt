@@ -6,6 +6,7 @@ use Rattle.std.proofs.lemmas.Bool.Decides.{nat_tests}
 use Rattle.std.proofs.lemmas.Option.{slice_get_within}
 use Rattle.std.proofs.lemmas.Slice.Eq.{bytes_eq-Decides}
 use Rattle.cap_words.specs.Words.{W, Fix, undef, nil, symbol_t, func_t, same_word}
+use Rattle.cap_words.specs.Text.{is_run}
 use Rattle.cap_words.proofs.Places.{get-left}
 use Rattle.instr_table.specs.declared.op.Op.TheVariants as op
 use Rattle.instr_table.specs.Code.{named}
@@ -36,6 +37,7 @@ use Rattle.hum_emit.proofs.DataCells.{datum_shown, list_stands}
 use Rattle.hum_emit.proofs.Fixed.{fails, calls, executes, applies, compares, primitives, ends}
 use Rattle.hum_emit.proofs.Expressions.{below, at, index_is}
 use Rattle.hum_emit.proofs.MadeUnits.{UnitAt, units_grow, units_stand}
+use Rattle.hum_emit.proofs.FairStart.{whole}
 
 -- ---- data
 
@@ -105,8 +107,9 @@ module _ (c : Image) (kept : Kept c.final) where
     primitives_stand Or = datum_shown c 10 _ (cell 10 _ refl)
     primitives_stand Not = datum_shown c 11 _ (cell 11 _ refl)
 
-    pub data_stand : DataStand (layout c) c.setting.base
-    data_stand = record {
+    pub data_stand : ((name : List ℕ) (n : ℕ) → c.final.symbols name ≡ Some n → is_run name ≡ true) → DataStand (layout c) c.setting.base
+    data_stand runs = record {
+      runs = λ name w h. let is = of_symbol name w h in runs name is.0 is.1;
       symbols = λ name w h. symbols_stand name w (of_symbol name w h);
       names = λ a b v w h k. names_differ a b v w (of_symbol a v h) (of_symbol b w k);
       primitives = primitives_stand;
@@ -198,7 +201,8 @@ module _ (m : Setting) (units : List TestUnit) (shapes : List Shape) (fit : Shap
   -- what is emitted of units in shapes that fit stands, to every depth, in each store that holds it
   pub code_stands : CodeStands m (program_layout (places_of (emission units shapes)) units shapes final)
   code_stands = record {
-    cells = data_stand image (begun.keeps kept_start) begun.cells begun.cells_is;
+    cells = data_stand image (begun.keeps kept_start) begun.cells begun.cells_is
+        (λ name n h. ((whole units shapes fit).fair.symbols name n h).1);
     runtime = runtime_stands;
     functions = λ n k f. unit_at n k (unit.Abs f.tests f.value) f.is;
     blocks = λ n k b.

@@ -26,7 +26,8 @@ use Rattle.hum_emit.specs.Templates.{OfExpr, OfTest, OfArm, OfBranch, function, 
 use Rattle.hum_emit.specs.Shapes.{Fits, BlockIn, MemberIn, SlotFits, TestFits, EachTestFits, EachFits, ArmsFit, BranchesFit, NodeFits, fits_to}
 use Rattle.hum_emit.proofs.Makes.{begins_later, Image, layout, Makes, makes_one, makes_both, makes_as, makes_miss, makes_field, makes_choose, makes_calls, makes_nothing, pushes, dups, drops, picks, rolls, pairs_up, parts, nths, quads}
 use Rattle.hum_emit.proofs.DataCells.{text_begins, text_known, constant_begins, constant_known}
-use Rattle.hum_emit.proofs.Growths.{arm_code, branch_code, coded_expr, coded_test, grows_expr, grows_tests, three_grow}
+use Rattle.hum_emit.specs.Emitting.{arm_code, branch_code}
+use Rattle.hum_emit.proofs.Growths.{coded_expr, coded_test, grows_expr, grows_tests, three_grow}
 
 -- ---- operands
 

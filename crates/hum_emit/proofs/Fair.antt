@@ -1,14 +1,21 @@
--- Pieces whose words name what is there, and whose operations are those of programs.
-use Rattle.std.proofs.Common.{◌≡◌, refl, ℕ, suc, ◌<◌, ◌≤◌, lit<, ℤ, true, List, [], ◌∷◌, ◌++◌, length, Option, Some, None, arith}
+-- Pieces whose words name what is there, whose operations are those of programs, and whose symbols are runs.
+use Rattle.std.proofs.Common.{◌≡◌, refl, ℕ, suc, ◌<◌, ◌≤◌, lit<, ℤ, nat_eq, true, false, List, [], ◌∷◌, ◌++◌, length, Option, Some, None, arith}
 use Rattle.std.specs.List.{AllByRecursion}
 use Rattle.cap_words.specs.Fixnums.{in_range}
+use Rattle.cap_words.specs.Text.{is_run}
+use Rattle.instr_table.specs.Reach.{Every}
 use Rattle.hum_code.proofs.Makings.{length_end}
 use Rattle.hum_emit.specs.declared.instruction.Field.{Field}
 use Rattle.hum_emit.specs.declared.instruction.Field.TheVariants.{Number, Constant, Place, Unit as UnitField, Data}
 use Rattle.hum_emit.specs.declared.instruction.Instruction.{Instruction}
 use Rattle.hum_emit.specs.declared.instruction.Datum.{Datum}
 use Rattle.hum_emit.specs.Emitted.{Emitted, Piece, nothing, ◌▷◌, put, one, choose, calls, jump, with_field}
-use Rattle.hum_emit.specs.Made.{FieldMade, NextMade, InstructionMade, DatumMade, is_used}
+use Rattle.hum_emit.specs.Made.{FieldMade, NextMade, InstructionMade, DatumMade}
+use Rattle.hum_emit.proofs.PlainCode.{is_used}
+
+-- a datum is no instruction
+abbrev pub NoCode : Datum → Type 0
+NoCode d = nat_eq d.kind 9 ≡ false
 
 -- where there are so many units
 module _ (units : ℕ) where
@@ -18,11 +25,12 @@ module _ (units : ℕ) where
     pub made : InstructionMade size units count x
     pub used : is_used x.operation x.field ≡ true
 
-  -- the words of what is emitted so far name what is there, the fixed code included
+  -- the words of what is emitted so far name what is there, the fixed code included; no datum is an instruction; the symbols are runs
   pub record Fair (s : Emitted) : Type 0 where
     pub instructions : AllByRecursion (Proper (length s.code) (length s.cells)) s.code
     pub cells : AllByRecursion (DatumMade (length s.code) units (length s.cells)) s.cells
-    pub symbols : (name : List ℕ) (n : ℕ) → s.symbols name ≡ Some n → n < length s.cells
+    pub no_code : Every NoCode s.cells
+    pub symbols : (name : List ℕ) (n : ℕ) → s.symbols name ≡ Some n → (n < length s.cells) × (is_run name ≡ true)
     pub fixed : 232 < length s.code
 
   -- ---- where there is more
@@ -84,6 +92,7 @@ module _ (units : ℕ) where
           instructions = code_more n (length (s.code ++ x ∷ [])) (length s.cells) (length s.cells) up same (s.code ++ x ∷ [])
               (all_end (Proper n (length s.cells)) s.code (x ∷ []) h.instructions (is, tt));
           cells = cells_more n (length (s.code ++ x ∷ [])) (length s.cells) (length s.cells) up same s.cells h.cells;
+          no_code = h.no_code;
           symbols = h.symbols;
           fixed = let low = h.fixed in omega (arith, more, low);
         };

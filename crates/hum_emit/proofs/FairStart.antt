@@ -1,10 +1,11 @@
 -- The fixed code names what is there, and so does all that is emitted of a program.
-use Rattle.std.proofs.Common.{◌≡◌, refl, sym, subst, ℕ, ◌<◌, ◌^◌, lit<, pos, Bool, true, false, List, [], ◌∷◌, length, Option, Some, None, arith}
+use Rattle.std.proofs.Common.{◌≡◌, refl, sym, subst, ℕ, suc, ◌<◌, ◌^◌, lit<, pos, Bool, true, false, List, [], ◌∷◌, length, Option, Some, None, arith}
 use Rattle.std.specs.Prelude.{◌&&◌, nat_lt, slice_index}
 use Rattle.std.specs.List.{AllByRecursion, list_all}
 use Rattle.std.proofs.lemmas.Bool.{ltb-true, lt-ltb}
 use Rattle.std.proofs.lemmas.List.Elements.{All-from_recursion}
 use Rattle.cap_words.specs.Fixnums.{in_range}
+use Rattle.instr_table.specs.Reach.{Every}
 use Rattle.hum_core.specs.declared.tested.TestUnit.{TestUnit}
 use Rattle.hum_code.specs.Layout.{Shape}
 use Rattle.hum_emit.specs.declared.instruction.Field.{Field}
@@ -14,10 +15,11 @@ use Rattle.hum_emit.specs.Emitted.{Emitted, function_type}
 use Rattle.hum_emit.specs.Runtime.{runtime, routine_places}
 use Rattle.hum_emit.specs.Templates.{units_code, boot_code}
 use Rattle.hum_emit.specs.Program.{routine_cells, start, emission}
-use Rattle.hum_emit.specs.Made.{FieldMade, NextMade, InstructionMade, DatumMade, Made, Used, is_used}
+use Rattle.hum_emit.specs.Made.{FieldMade, NextMade, InstructionMade, DatumMade, Made}
 use Rattle.hum_emit.specs.Shapes.{ShapesFit}
-use Rattle.hum_emit.proofs.Fair.{Proper, Fair, After}
+use Rattle.hum_emit.proofs.Fair.{Proper, NoCode, Fair, After}
 use Rattle.hum_emit.proofs.FairData.{parts_true}
+use Rattle.hum_emit.proofs.PlainCode.{is_used}
 use Rattle.hum_emit.proofs.FairUnits.{UnitsFair, units_fair, entries_count, boot_fair, first_entry, descends}
 
 -- ---- the fixed code, by tests that compute
@@ -100,6 +102,10 @@ module _ (units : ℕ) where
     ),
   )
 
+  routines_data : (number : ℕ) (places : List ℕ) → Every NoCode (routine_cells number places)
+  routines_data number [] = tt
+  routines_data number (place ∷ more) = (refl, routines_data (suc number) more)
+
 size_is : length runtime ≡ 233
 unfolding runtime
 size_is = refl
@@ -114,6 +120,7 @@ start_fair units =
     record {
       instructions = subst (λ n. AllByRecursion (Proper units n 12) runtime) is (all_tested units runtime runtime_tests);
       cells = subst (λ n. AllByRecursion (DatumMade n units 12) (routine_cells 0 routine_places)) is (routines_made units);
+      no_code = routines_data units 0 routine_places;
       symbols = λ name n h. absurd (let no : None ≡ Some n = h in cc);
       fixed = omega (arith, is);
     }
@@ -123,11 +130,6 @@ start_fair units =
 only_made : (units size count : ℕ) (xs : List Instruction) → AllByRecursion (Proper units size count) xs → AllByRecursion (InstructionMade size units count) xs
 only_made units size count [] h = tt
 only_made units size count (x ∷ xs) h = (h.0.made, only_made units size count xs h.1)
-
-only_used : (units size count : ℕ) (xs : List Instruction) → AllByRecursion (Proper units size count) xs
-    → AllByRecursion (λ (x : Instruction). is_used x.operation x.field ≡ true) xs
-only_used units size count [] h = tt
-only_used units size count (x ∷ xs) h = (h.0.used, only_used units size count xs h.1)
 
 module _ (units : List TestUnit) (shapes : List Shape) (fit : ShapesFit units shapes) where
   abbrev made : Emitted × List ℕ
@@ -142,7 +144,7 @@ module _ (units : List TestUnit) (shapes : List Shape) (fit : ShapesFit units sh
   entries_are : length made.1 ≡ length units
   entries_are = entries_count units shapes units shapes start fit.count
 
-  whole : After (length units) made.0 (boot_code (slice_index made.1 0) made.0)
+  pub whole : After (length units) made.0 (boot_code (slice_index made.1 0) made.0)
   whole =
       let fixed = units_are.fair.fixed in
       (boot_fair units shapes).at (slice_index made.1 0) made.0 units_are.fair (omega arith) units_are.cells
@@ -159,10 +161,6 @@ module _ (units : List TestUnit) (shapes : List Shape) (fit : ShapesFit units sh
     few_instructions = few;
     few_cells = few_cells;
   }
-
-  -- and has only the operations of programs
-  pub emission_used : Used all.code
-  emission_used = All-from_recursion _ all.code (only_used (length units) (length all.code) (length all.cells) all.code whole.fair.instructions)
 
   -- it has the fixed code, and a first instruction for each unit
   pub emission_long : 28 < length all.code

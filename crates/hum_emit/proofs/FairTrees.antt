@@ -22,7 +22,8 @@ use Rattle.hum_emit.specs.Runtime.{fail_place, call_place, same_place, apply_pla
 use Rattle.hum_emit.specs.Templates.{OfExpr, OfTest, OfArm, OfBranch, function, block, unit_of, member_unit, variable, items, pairs, branches, tests, restore, later_arms, arms, of_expr, of_test, of_arm, of_branch, expr_code, test_code}
 use Rattle.hum_emit.specs.Made.{FieldMade}
 use Rattle.hum_emit.specs.Shapes.{FunctionIn, BlockIn, MemberIn, SlotFits, TestFits, EachTestFits, EachFits, ArmsFit, BranchesFit, NodeFits, Fits, fits_to}
-use Rattle.hum_emit.proofs.Growths.{arm_code, branch_code, coded_expr, coded_test, coded_arm, coded_branch}
+use Rattle.hum_emit.specs.Emitting.{arm_code, branch_code}
+use Rattle.hum_emit.proofs.Growths.{coded_expr, coded_test, coded_arm, coded_branch}
 use Rattle.hum_emit.proofs.Expressions.{after_is, after_all_is}
 use Rattle.hum_emit.proofs.Fair.{Fairly, later, field_more, f_fixed, f_one, f_number, f_constant, f_choose, f_calls, f_nothing, f_both, f_miss, f_from, f_field}
 use Rattle.hum_emit.proofs.FairData.{text_fair, constant_fair}

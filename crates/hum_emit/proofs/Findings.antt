@@ -1,5 +1,5 @@
 -- What a walk finds, one part after the other.
-use Rattle.std.proofs.Common.{◌≡◌, refl, sym, ap, subst, ◌∙◌, arith, ℕ, suc, ◌+◌, ◌<◌, List, [], ◌∷◌, ◌++◌, length, map, take, drop, drop-cons, reverse, get_or, append_assoc, Result, Ok, Err, OnOk}
+use Rattle.std.proofs.Common.{◌≡◌, refl, sym, ap, subst, ◌∙◌, arith, ℕ, suc, ◌+◌, ◌<◌, List, [], ◌∷◌, ◌++◌, length, map, take, drop, drop-cons, reverse, get_or, append_assoc}
 use Rattle.std.specs.List.{AllZip}
 use Rattle.std.proofs.lemmas.List.{append-nil, map-append, take_more, length-append, reverse-append, reverse-reverse}
 use Rattle.std.specs.Prelude.{slice_index}
@@ -63,10 +63,6 @@ one_found w v top shape is rows found = record {
   found = found;
   stand = (subst (λ r. IsTop r top shape) (sym rows) is, tt);
 }
-
-pub when_ok : {T E P Q : Type 0} (r : Result T E) → (P → Q) → OnOk r P → OnOk r Q
-when_ok (Ok x) f h = f h
-when_ok (Err e) f h = tt
 
 -- ---- lists of parts
 

@@ -2,8 +2,8 @@
 use Rattle.std.proofs.Common.{◌≡◌, sym, subst, ℕ, zero, suc, ◌-◌, pos, negsuc, List, [], ◌∷◌, map, length, Option, Some, None}
 use Rattle.hum_core.specs.declared.tested.TestExpr.{TestExpr}
 use Rattle.hum_core.specs.declared.tested.Test.{Test}
-use Rattle.hum_core.specs.declared.tested.TestArm.{TestArm, fold-TestArm}
-use Rattle.hum_core.specs.declared.tested.TestBranch.{TestBranch, fold-TestBranch}
+use Rattle.hum_core.specs.declared.tested.TestArm.{TestArm}
+use Rattle.hum_core.specs.declared.tested.TestBranch.{TestBranch}
 use Rattle.hum_core.specs.declared.tested.Test.TheOpen.{Test-F, TestExpr-F, TestArm-F, TestBranch-F}
 use Rattle.hum_core.specs.declared.tested.Test.TheOpen as layer
 use Rattle.hum_core.specs.declared.tested.Test.TheFolds as folds
@@ -13,14 +13,9 @@ use Rattle.hum_emit.specs.declared.instruction.Field.TheVariants.{Constant}
 use Rattle.hum_emit.specs.Emitted.{Piece, ◌▷◌, push, dup, drop, pair, nth, eq, choose, text, constant}
 use Rattle.hum_emit.specs.Runtime.{fail_place}
 use Rattle.hum_emit.specs.Templates.{OfExpr, OfTest, OfArm, OfBranch, function, block, variable, items, pairs, branches, tests, restore, later_arms, arms, of_expr, of_test, of_arm, of_branch, expr_code, test_code, after_all, member_unit}
+use Rattle.hum_emit.specs.Emitting.{arm_code, branch_code}
 use Rattle.hum_emit.proofs.Makes.{begins_later, Growing, g_one, g_choose, g_calls, g_nothing, g_both, g_miss, g_field}
 use Rattle.hum_emit.proofs.DataCells.{text_begins, constant_begins}
-
-abbrev pub arm_code : TestArm → OfArm
-arm_code = fold-TestArm OfTest OfExpr OfArm OfBranch of_test of_expr of_arm of_branch
-
-abbrev pub branch_code : TestBranch → OfBranch
-branch_code = fold-TestBranch OfTest OfExpr OfArm OfBranch of_test of_expr of_arm of_branch
 
 pub function_grows : (u : ℕ) → Growing (function u)
 function_grows u = g_both g_one (g_both g_one g_one)

@@ -23,7 +23,8 @@ use Rattle.hum_emit.specs.declared.instruction.Datum.{Datum}
 use Rattle.hum_emit.specs.Emitted.{Emitted}
 use Rattle.hum_emit.specs.Module.{code_label, unit_label, datum_label, begins, operand_of, next_operand, labels_of, rest_if, item_of, code_items, datum_items, module_of}
 use Rattle.hum_emit.specs.Made.{FieldMade, NextMade, InstructionMade, DatumMade, Made}
-use Rattle.hum_emit.specs.Holds.{Places, places, place_word, word_of, next_word, Holds}
+use Rattle.hum_emit.specs.Holds.{Places, place_word, word_of, next_word, Holds}
+use Rattle.hum_emit.specs.ProgramLayout.{places_of}
 use Rattle.hum_emit.specs.Laws.{LinkedHolds}
 use Rattle.hum_emit.proofs.Modules.{items, number_of_code, number_of_unit, number_of_datum, number_of_boot}
 
@@ -113,7 +114,7 @@ module _ (e : Emitted) (entries : List ℕ) (made : Made e.code e.cells entries)
   m = module_of e entries
 
   p : Places
-  p = places e entries
+  p = places_of (e, entries)
 
   words : Name → W
   words = name_word (m ∷ []) 16 m
@@ -156,7 +157,7 @@ module _ (e : Emitted) (entries : List ℕ) (made : Made e.code e.cells entries)
 element : {X : Type 0} (P : X → Type 0) (xs : List X) (i : ℕ) (x : X) → All P xs → slice_get xs i ≡ Some x → P x
 element P xs i x all h = subst P (get_or_from_slice_get xs i x x h) (All-get_or P xs i x (slice_get_within xs i x h) all)
 
-holds : (e : Emitted) (entries : List ℕ) (boot : W) (s : Seen) → Made e.code e.cells entries → Linked (module_of e entries ∷ []) boot s.rom → Holds (places e entries) s e
+holds : (e : Emitted) (entries : List ℕ) (boot : W) (s : Seen) → Made e.code e.cells entries → Linked (module_of e entries ∷ []) boot s.rom → Holds (places_of (e, entries)) s e
 unfolding m p words instruction_quad datum_cell
 holds e entries boot s made linked = record {
   instructions = λ i x h.
@@ -171,7 +172,7 @@ holds e entries boot s made linked = record {
 }
 
 boots : (e : Emitted) (entries : List ℕ) (boot : W) (s : Seen) → Made e.code e.cells entries → Linked (module_of e entries ∷ []) boot s.rom
-    → boot ≡ place_word (places e entries) (length e.code - 1)
+    → boot ≡ place_word (places_of (e, entries)) (length e.code - 1)
 unfolding export_number
 boots e entries boot s made linked =
     let some = made.some in

@@ -21,11 +21,13 @@ pub mod ShapeBlocks
 pub mod ShapePatterns
 pub mod ShapeTrees
 pub mod ShapeFiles
+pub mod PlainCode
 pub mod Fair
 pub mod FairData
 pub mod FairTrees
 pub mod FairUnits
 pub mod FairStart
+pub mod PlainImages
 pub mod Backwards
 pub mod Symbols
 pub mod Linking
@@ -37,3 +39,6 @@ pub mod Tops
 pub mod Findings
 pub mod Parting
 pub mod UnitTurns
+pub mod Size
+pub mod SizeTrees
+pub mod SizeUnits

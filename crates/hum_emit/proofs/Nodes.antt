@@ -16,15 +16,15 @@ use Rattle.hum_core.specs.declared.tested.TestExpr.{TestExpr}
 use Rattle.hum_core.specs.declared.tested.TestExpr.TheVariants as t
 use Rattle.hum_core.specs.declared.tested.Test.{Test}
 use Rattle.hum_core.specs.declared.tested.Test.TheVariants as test
-use Rattle.hum_core.specs.declared.tested.TestArm.{TestArm, roll-TestArm, fold-TestArm}
-use Rattle.hum_core.specs.declared.tested.TestBranch.{TestBranch, roll-TestBranch, fold-TestBranch}
+use Rattle.hum_core.specs.declared.tested.TestArm.{TestArm, roll-TestArm}
+use Rattle.hum_core.specs.declared.tested.TestBranch.{TestBranch, roll-TestBranch}
 use Rattle.hum_core.specs.declared.tested.Test.TheOpen.{Test-F, TestExpr-F}
 use Rattle.hum_core.specs.declared.tested.Test.TheOpen as layer
 use Rattle.hum_core.specs.declared.tested.Test.TheFolds as test_folds
 use Rattle.hum_core.specs.declared.tested.Test.TheViews.{roll-TestExpr, roll-Test}
 use Rattle.hum_core.specs.Lists.{expr_tested, pat_tested, arm_tested, branch_tested, tuple_tested, tested_expr, tested_pat, tested_arm, tested_branch}
 use Rattle.hum_code.specs.Layout.{Shape, with_singles}
-use Rattle.hum_emit.specs.Shapes.{Inside, OfTest, in_all, after_all, of_expr, of_test, of_arm, of_branch, in_expr, of_one_test, in_tests}
+use Rattle.hum_emit.specs.Shapes.{Inside, OfTest, in_all, after_all, of_expr, of_test, of_arm, of_branch, in_expr, in_arm, in_branch, of_one_test, in_tests}
 
 -- ---- what nodes become
 
@@ -97,12 +97,6 @@ tested_one_branch e k =
     (record { condition = e; block = k })
 
 -- ---- what is inside of nodes
-
-abbrev pub in_arm : TestArm → Inside
-in_arm = fold-TestArm OfTest Inside Inside Inside of_test of_expr of_arm of_branch
-
-abbrev pub in_branch : TestBranch → Inside
-in_branch = fold-TestBranch OfTest Inside Inside Inside of_test of_expr of_arm of_branch
 
 inside_node : (x : TestExpr-F Test TestExpr TestArm TestBranch)
     → in_expr (roll-TestExpr x) ≡ of_expr (test_folds.map-TestExpr Test TestExpr TestArm TestBranch OfTest Inside Inside Inside of_one_test in_expr in_arm in_branch x)

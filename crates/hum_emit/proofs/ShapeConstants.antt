@@ -1,11 +1,13 @@
--- The numbers of a formed tree are fixnums.
-use Rattle.std.proofs.Common.{◌≡◌, refl, ℕ, Bool, true, false, List, [], ◌∷◌, arith, ⊎_elim}
-use Rattle.std.specs.Prelude.{◌&&◌, ◌||◌, not, ◌==◌, nat_le, nat_lt, ◌^◌, ℤ, pos, negsuc, int_le}
-use Rattle.std.specs.List.{list_all}
+-- The numbers of a formed tree are fixnums, and its runs are those of the machine.
+use Rattle.std.proofs.Common.{◌≡◌, refl, ap, ◌∙◌, ℕ, Bool, true, false, List, [], ◌∷◌, length, arith, ⊎_elim}
+use Rattle.std.specs.Prelude.{◌&&◌, ◌||◌, not, ◌==◌, nat_eq, nat_le, nat_lt, ◌^◌, ℤ, pos, negsuc, int_le, codes}
+use Rattle.std.specs.List.{list_all, list_any}
 use Rattle.std.proofs.lemmas.Bool.{and_parts, and_from}
 use Rattle.std.proofs.lemmas.Bool.Decides.{nat_tests}
 use Rattle.cap_words.specs.Fixnums.{in_range}
-use Rattle.hum_syntax.specs.Forms.{is_in_range, is_run, is_run_byte, is_delimiter, is_point, is_text}
+use Rattle.cap_words.specs.Text.{is_run, is_run_byte, is_visible, is_delimiter}
+use Rattle.hum_syntax.specs.Forms as forms
+use Rattle.hum_syntax.specs.Forms.{is_in_range, is_point, is_text}
 use lib.Utf8.{scalar, scalar_cases}
 use Rattle.hum_emit.specs.Shapes.{TextFits}
 
@@ -19,11 +21,31 @@ each_fits test go (c ∷ cs) h = let parts = and_parts _ _ h in and_from _ _ (go
 
 byte_fits : (b : ℕ) → is_run_byte b ≡ true → nat_lt b (2 ^ 30) ≡ true
 byte_fits b h =
-    let parts = and_parts (nat_le 33 b) (nat_le b 126) (and_parts (nat_le 33 b && nat_le b 126) (not (is_delimiter b)) h).0 in
+    let parts = and_parts (nat_le 33 b) (nat_le b 126) (and_parts (is_visible b) (not (is_delimiter b)) h).0 in
     grind (arith, nat_tests, parts.1)
 
 pub run_fits : (run : List ℕ) → is_run run ≡ true → TextFits run
 run_fits run h = each_fits is_run_byte byte_fits run (and_parts _ _ h).1
+
+-- ---- the runs of the language and those of the machine
+
+same_any : (b : ℕ) (ds : List ℕ) → list_any (nat_eq b) ds ≡ list_any (λ d. nat_eq d b) ds
+same_any b [] = refl
+same_any b (d ∷ ds) = ap (λ t. t || list_any (nat_eq b) ds) (turned b d) ∙ ap (λ t. nat_eq d b || t) (same_any b ds)
+  where
+    turned : (m n : ℕ) → nat_eq m n ≡ nat_eq n m
+    turned m n = grind (arith, nat_tests)
+
+same_byte : (b : ℕ) → forms.is_run_byte b ≡ is_run_byte b
+same_byte b = ap (λ t. nat_le 33 b && nat_le b 126 && not t) (same_any b (codes "()[],.=:\"$\\#"))
+
+same_bytes : (bs : List ℕ) → list_all forms.is_run_byte bs ≡ list_all is_run_byte bs
+same_bytes [] = refl
+same_bytes (b ∷ bs) = ap (λ t. t && list_all forms.is_run_byte bs) (same_byte b) ∙ ap (λ t. is_run_byte b && t) (same_bytes bs)
+
+-- they are the same
+pub same_run : (run : List ℕ) → forms.is_run run ≡ is_run run
+same_run run = ap (λ t. nat_lt 0 (length run) && nat_le (length run) 128 && t) (same_bytes run)
 
 either : {P : Type 0} (a b : Bool) → (a || b) ≡ true → (a ≡ true → P) → (b ≡ true → P) → P
 either true b h f g = f refl

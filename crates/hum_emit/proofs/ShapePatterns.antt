@@ -27,8 +27,7 @@ use Rattle.hum_core.proofs.UnitPlaces.{made_pat, sized_pat}
 use Rattle.hum_core.proofs.BoundNames.{found_pat, made_names, found_names}
 use Rattle.hum_code.specs.Layout.{Shape}
 use Rattle.hum_code.specs.Code.{bound_behind, bound_after}
-use Rattle.hum_emit.specs.Shapes.{Inside, OfTest, of_expr, of_test, of_arm, of_branch, in_expr, of_one_test, after_all, in_all, EachTestFits, TestFits}
-use Rattle.hum_emit.proofs.Nodes.{in_arm, in_branch}
+use Rattle.hum_emit.specs.Shapes.{Inside, OfTest, of_expr, of_test, of_arm, of_branch, in_expr, in_arm, in_branch, of_one_test, after_all, in_all, EachTestFits, TestFits}
 use Rattle.hum_emit.proofs.Walking.{in_core_pat, pat_walks}
 use Rattle.hum_emit.proofs.ShapePlaces.{Here, here_parts, AllFit, none_fit, fit_both, Ready}
 use Rattle.hum_emit.proofs.ShapeTests.{to, TestsGo, PatFit, one_fits, bound_one}

@@ -59,7 +59,7 @@ use Rattle.hum_emit.specs.Shapes.{Fits, Inside, in_all, after_all, of_one_test, 
 use Rattle.hum_emit.proofs.Nodes.{tested_is, tested_text, tested_var, tested_myself, tested_abs, tested_block, tested_call, tested_tuple, tested_new, tested_case, tested_if, tested_any, tested_bind, tested_constant, tested_value, tested_items, tested_one_arm, tested_one_branch}
 use Rattle.hum_emit.proofs.Walking.{PartWalks, in_core, in_core_pat, in_core_stmt, in_core_arm, in_core_branch, core_is, core_abs, core_block, core_call, core_tuple, core_new, core_case, core_if, core_constant, core_value, core_items, core_arm, core_branch, core_any, core_bind, core_var, core_text, core_myself, in_order_walk, each_of, expr_walks, pat_walks, arm_walks, branch_walks, built}
 use Rattle.hum_emit.proofs.ShapePlaces.{Here, here_parts, here_as, here_unit, AllFit, none_fit, fit_both, fit_unit, fit_as, Ready, scope_singles, singles_more, slot_fits}
-use Rattle.hum_emit.proofs.ShapeConstants.{range_fits, text_fits}
+use Rattle.hum_emit.proofs.ShapeConstants.{range_fits, text_fits, same_run}
 use Rattle.hum_emit.proofs.ShapeTests.{to, node_to, TestsGo, PatFit, tests_to, room}
 use Rattle.hum_emit.proofs.ShapeBlocks as blocks
 use Rattle.hum_emit.proofs.ShapeBlocks.{StmtFit, block_fits}
@@ -647,7 +647,7 @@ module _ (units : List TestUnit) (shapes : List Shape) where
     at_true = λ is. constant_fit const.True e.True (fold_of.fold_true built) (fold_of.fold_true looked) tt;
     at_false = λ is. constant_fit const.False e.False (fold_of.fold_false built) (fold_of.fold_false looked) tt;
     at_num = λ z is. constant_fit (const.Num z) (e.Num z) (fold_of.fold_num built z) (fold_of.fold_num looked z) (range_fits z (sym (fold_of.fold_num formed z) ∙ is));
-    at_sym = λ x is. constant_fit (const.Sym x) (e.Sym x) (fold_of.fold_sym built x) (fold_of.fold_sym looked x) (sym (fold_of.fold_sym formed x) ∙ is);
+    at_sym = λ x is. constant_fit (const.Sym x) (e.Sym x) (fold_of.fold_sym built x) (fold_of.fold_sym looked x) (sym (fold_of.fold_sym formed x ∙ same_run x) ∙ is);
     at_text = text_fit;
     at_var = var_fit;
     at_myself = myself_fit;
@@ -666,7 +666,7 @@ module _ (units : List TestUnit) (shapes : List Shape) where
     at_pat_true = λ is. constant_pat const.True p.True (fold_of.fold_pat_true built) (fold_of.fold_pat_true looked) tt;
     at_pat_false = λ is. constant_pat const.False p.False (fold_of.fold_pat_false built) (fold_of.fold_pat_false looked) tt;
     at_pat_num = λ z is. constant_pat (const.Num z) (p.Num z) (fold_of.fold_pat_num built z) (fold_of.fold_pat_num looked z) (range_fits z (sym (fold_of.fold_pat_num formed z) ∙ is));
-    at_pat_sym = λ x is. constant_pat (const.Sym x) (p.Sym x) (fold_of.fold_pat_sym built x) (fold_of.fold_pat_sym looked x) (sym (fold_of.fold_pat_sym formed x) ∙ is);
+    at_pat_sym = λ x is. constant_pat (const.Sym x) (p.Sym x) (fold_of.fold_pat_sym built x) (fold_of.fold_pat_sym looked x) (sym (fold_of.fold_pat_sym formed x ∙ same_run x) ∙ is);
     at_value = value_pat;
     at_pat_tuple = tuple_pat;
     at_let = let_here;

@@ -1,5 +1,5 @@
 -- One turn of each loop that makes code of a list's parts, from the last part to the first one.
-use Rattle.std.proofs.Common.{◌≡◌, refl, sym, ap, ◌∙◌, ℕ, zero, suc, ◌+◌, ◌-◌, ◌<◌, ◌≤◌, pos, List, [], ◌∷◌, ◌++◌, map, length, take, drop, get_or, Result, Ok, Err, IfOk, OnOk, arith}
+use Rattle.std.proofs.Common.{◌≡◌, refl, sym, ap, ◌∙◌, ℕ, zero, suc, ◌+◌, ◌-◌, ◌<◌, ◌≤◌, pos, List, [], ◌∷◌, ◌++◌, map, length, take, drop, get_or, arith}
 use Rattle.std.proofs.lemmas.List.{map-append, length-map, take_more, take_all, length-take-le, drop-append-le, drop_all}
 use Rattle.hum_core.specs.declared.tested.TestExpr.{TestExpr}
 use Rattle.hum_core.specs.declared.tested.TestStmt.{TestStmt}
@@ -11,8 +11,8 @@ use Rattle.hum_core.specs.declared.tested.TestBranch.{TestBranch}
 use Rattle.hum_code.specs.Layout.{Shape, with_singles}
 use Rattle.hum_emit.specs.Emitted.{Emitted, Piece, ◌▷◌, dup, drop as drops, pair, part, roll, jump}
 use Rattle.hum_emit.specs.Runtime.{fail_place}
-use Rattle.hum_emit.specs.Templates.{OfArm, pairs, items, tuple, tests, after_all, restore, later_arms, arms, branches, block, expr_code, test_code, statement, statements, shape_after, matching, unit_code}
-use Rattle.hum_emit.specs.Emitting.{function_code, front_items, middle_arms, other_branches, through, front_statements, arm_code, branch_code}
+use Rattle.hum_emit.specs.Templates.{OfArm, pairs, items, tuple, tests, after_all, restore, later_arms, arms, branches, block, expr_code, test_code, statement, statements, shape_after, matching, function_code, unit_code}
+use Rattle.hum_emit.specs.Emitting.{front_items, middle_arms, other_branches, through, front_statements, arm_code, branch_code}
 use Rattle.hum_emit.proofs.Backwards.{front_items_last, items_last, after_all_last, tests_last, middle_arms_last, later_arms_last, other_branches_last, all_branches, through_last, front_statements_last, all_statements}
 
 -- the second piece was made first, and then the first one
@@ -184,10 +184,6 @@ arm_made a ts shape inner miss k s v m t is inside made_value made_before made_t
     ▷ expr_code (out-TestArm a).value (with_singles (after_all (map test_code xs) 0) shape)) k s) is
     ∙ sym (ap (λ (z : OfArm). z shape miss k s) (fold_out-TestArm _ _ _ _ _ _ _ _ a))
 
-pub where_ok : {T E : Type 0} {P Q : T → Type 0} (r : Result T E) → ((x : T) → P x → Q x) → IfOk r P → IfOk r Q
-where_ok (Ok x) f h = f x h
-where_ok (Err e) f h = tt
-
 -- ---- statements
 
 pub through_turn : (ss : List TestStmt) (i : ℕ) (x : TestStmt) (shape a b : Shape) → i < length ss → x ≡ get_or ss i x → a ≡ through (take i ss) shape
@@ -249,7 +245,3 @@ unit_block u ss xs shape s p is same made =
     let there : statements xs shape 0 s ≡ statements ss shape 0 s = ap (λ ys. statements ys shape 0 s) same in
     let whole : unit_code u shape 0 s ≡ statements ss shape 0 s = ap (λ v. unit_code v shape 0 s) is in
     made ∙ there ∙ sym whole
-
-pub when_ok : {T E : Type 0} {P Q : Type 0} (r : Result T E) → (P → Q) → OnOk r P → OnOk r Q
-when_ok (Ok x) f h = f h
-when_ok (Err e) f h = tt

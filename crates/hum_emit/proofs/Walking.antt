@@ -44,8 +44,8 @@ use Rattle.hum_core.proofs.FormedParts.{IfFunction}
 use Rattle.hum_core.proofs.UnitPlaces.{made_expr, made_pat, made_stmt, made_arm, made_branch}
 use Rattle.hum_code.specs.Layout.{Shape, Several, with_singles}
 use Rattle.hum_code.specs.Code.{bound_after}
-use Rattle.hum_emit.specs.Shapes.{Inside, in_all, after_all, in_expr, of_one_test, in_tests, in_statement, in_statements, in_unit, shapes_from}
-use Rattle.hum_emit.proofs.Nodes.{in_arm, in_branch, tested_is, tested_text, tested_var, tested_myself, tested_abs, tested_block, tested_call, tested_tuple, tested_new, tested_case, tested_if, tested_any, tested_bind, tested_constant, tested_value, tested_items, tested_one_arm, tested_one_branch, inside_constant, inside_text, inside_var, inside_myself, inside_abs, inside_block, inside_call, inside_tuple, inside_new, inside_case, inside_if, inside_arm, inside_branch, of_pair, of_constant, of_same, of_bind, of_skip}
+use Rattle.hum_emit.specs.Shapes.{Inside, in_all, after_all, in_expr, in_arm, in_branch, of_one_test, in_tests, in_statement, in_statements, in_unit, shapes_from}
+use Rattle.hum_emit.proofs.Nodes.{tested_is, tested_text, tested_var, tested_myself, tested_abs, tested_block, tested_call, tested_tuple, tested_new, tested_case, tested_if, tested_any, tested_bind, tested_constant, tested_value, tested_items, tested_one_arm, tested_one_branch, inside_constant, inside_text, inside_var, inside_myself, inside_abs, inside_block, inside_call, inside_tuple, inside_new, inside_case, inside_if, inside_arm, inside_branch, of_pair, of_constant, of_same, of_bind, of_skip}
 
 -- ---- units that stand one after the other
 

@@ -53,10 +53,6 @@ middle_arms [] shape k next = next
 middle_arms (a ∷ more) shape k next =
     let later = middle_arms more shape k next in (drop 2 ▷ restore ▷ a shape later.1) k later.0
 
-abbrev pub function_code : List Test → TestExpr → Shape → Piece
-function_code ts e shape =
-    roll (pos 2) ▷ matching (map test_code ts) shape ▷ expr_code e (with_singles (after_all (map test_code ts) 0) shape) ▷ roll (pos 2) ▷ jump
-
 abbrev pub arm_code : TestArm → OfArm
 arm_code = fold-TestArm OfTest OfExpr OfArm OfBranch of_test of_expr of_arm of_branch
 

@@ -1,5 +1,5 @@
 -- What the words of emitted code come to in an image, and that a store holds what was emitted.
-use Rattle.std.specs.Prelude.{◌≡◌, ℕ, suc, ◌+◌, ◌-◌, List, length, Option, Some, None, slice_get, slice_index}
+use Rattle.std.specs.Prelude.{◌≡◌, ℕ, suc, ◌+◌, ◌-◌, Option, Some, None, slice_get}
 use Rattle.cap_words.specs.declared.word.Quad.{Quad}
 use Rattle.cap_words.specs.Words.{W, Fix, Rom, undef}
 use Rattle.cap_words.specs.Seen.{Seen, cell_seen}
@@ -14,10 +14,6 @@ use Rattle.hum_emit.specs.Emitted.{Emitted}
 pub record Places : Type 0 where
   pub size : ℕ
   pub entry : ℕ → ℕ
-
--- those of what was emitted, with these first instructions
-abbrev pub places : Emitted → (entries : List ℕ) → Places
-places e entries = record { size = length e.code; entry = slice_index entries }
 
 module _ (p : Places) where
   -- the instruction that was made last stands first, behind the constants; the data stand behind all instructions

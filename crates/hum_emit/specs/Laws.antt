@@ -13,8 +13,8 @@ use Rattle.hum_code.specs.Comes.{Setting}
 use Rattle.hum_code.specs.Layout.{Shape}
 use Rattle.hum_code.specs.Emission.{CodeStands}
 use Rattle.hum_emit.specs.Emitted.{Emitted}
-use Rattle.hum_emit.specs.Holds.{places, place_word, Holds}
-use Rattle.hum_emit.specs.Made.{Made, Used}
+use Rattle.hum_emit.specs.Holds.{place_word, Holds}
+use Rattle.hum_emit.specs.Made.{Made}
 use Rattle.hum_emit.specs.Module.{module_of}
 use Rattle.hum_emit.specs.Program.{emission}
 use Rattle.hum_emit.specs.Shapes.{shapes_of, ShapesFit}
@@ -24,7 +24,7 @@ use Rattle.hum_emit.specs.ProgramLayout.{places_of, program_layout}
 abbrev pub LinkedHolds : Type 0
 LinkedHolds =
     (e : Emitted) (entries : List ℕ) (boot : W) (s : Seen) → Made e.code e.cells entries → Linked (module_of e entries ∷ []) boot s.rom
-    → Holds (places e entries) s e × (boot ≡ place_word (places e entries) (length e.code - 1))
+    → Holds (places_of (e, entries)) s e × (boot ≡ place_word (places_of (e, entries)) (length e.code - 1))
 
 -- what is emitted of units, in shapes that fit, stands for them in each store that holds it
 abbrev pub EmittedCodeStands : Type 0
@@ -43,7 +43,3 @@ EmissionsAreMade =
     (units : List TestUnit) (shapes : List Shape) → ShapesFit units shapes → length (emission units shapes).0.code < 2 ^ 32
     → length (emission units shapes).0.cells < 2 ^ 32
     → Made (emission units shapes).0.code (emission units shapes).0.cells (emission units shapes).1
-
--- and has the operations of programs alone
-abbrev pub EmissionsAreUsed : Type 0
-EmissionsAreUsed = (units : List TestUnit) (shapes : List Shape) → ShapesFit units shapes → Used (emission units shapes).0.code

@@ -14,3 +14,4 @@ pub mod Finding
 pub mod Emitting
 pub mod ProgramLayout
 pub mod Compiled
+pub mod Size

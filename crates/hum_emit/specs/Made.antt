@@ -1,5 +1,5 @@
 -- What a well made emission is: each word names what is there.
-use Rattle.std.specs.Prelude.{◌≡◌, ℕ, ◌<◌, ◌^◌, pos, nat_eq, nat_lt, Bool, true, false, ◌||◌, if◌then◌else◌, List, [], ◌∷◌, length, Option, Some, None, ⊤}
+use Rattle.std.specs.Prelude.{◌≡◌, ℕ, ◌<◌, ◌^◌, true, List, [], ◌∷◌, length, Option, Some, None, ⊤}
 use Rattle.std.specs.List.{All}
 use Rattle.cap_words.specs.Fixnums.{in_range}
 use Rattle.hum_emit.specs.declared.instruction.Field.{Field}
@@ -43,17 +43,3 @@ pub record Made (code : List Instruction) (cells : List Datum) (entries : List �
   pub entries_descend : Descend (length code) entries
   pub few_instructions : length code < 2 ^ 32
   pub few_cells : length cells < 2 ^ 32
-
--- the word is that number
-abbrev pub is_number : ℕ → Field → Bool
-is_number n (Number (pos m)) = nat_eq m n
-is_number n _ = false
-
--- An operation of a program's code: none of dictionaries, deques or sponsors, and of those of actors only to send, to create and to become.
-abbrev pub is_used : (operation : ℕ) → Field → Bool
-is_used operation field =
-    if nat_eq operation 20 then is_number 0 field || is_number 2 field || is_number 4 field else nat_lt operation 22 || nat_lt 24 operation
-
--- such instructions alone
-abbrev pub Used : List Instruction → Type 0
-Used code = All (λ x. is_used x.operation x.field ≡ true) code

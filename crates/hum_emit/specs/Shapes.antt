@@ -1,8 +1,8 @@
 -- The shape of each unit's place, by one walk through a program; and what is so of the shapes of a program that comes from a text.
-use Rattle.std.specs.Prelude.{◌≡◌, ℕ, zero, suc, ◌^◌, ◌≤◌, ◌<◌, nat_lt, true, List, [], ◌∷◌, ◌++◌, map, length, Option, Some, None, slice_get}
+use Rattle.std.specs.Prelude.{◌≡◌, ℕ, zero, suc, ◌^◌, ◌≤◌, ◌<◌, nat_lt, true, List, [], ◌∷◌, ◌++◌, map, fold, length, Option, Some, None, slice_get}
 use Rattle.std.specs.List.{list_all}
 use Rattle.cap_words.specs.Fixnums.{in_range}
-use Rattle.hum_syntax.specs.Forms.{is_run}
+use Rattle.cap_words.specs.Text.{is_run}
 use Rattle.hum_core.specs.declared.slot.Const.{Const}
 use Rattle.hum_core.specs.declared.slot.Const.TheVariants as const
 use Rattle.hum_core.specs.declared.tested.TestUnit.{TestUnit}
@@ -37,8 +37,7 @@ in_all [] shape = []
 in_all (a ∷ more) shape = a shape ++ in_all more shape
 
 abbrev pub after_all : List OfTest → ℕ → ℕ
-after_all [] n = n
-after_all (t ∷ ts) n = after_all ts (t.after n)
+after_all ts n = fold (λ before (t : OfTest). t.after before) n ts
 
 -- ---- one node, with what is inside the nodes below in their places
 

@@ -1,6 +1,6 @@
 -- The code of each part of a program: the table of the emitter. Where code stands in a shape, the stack has on top a word for an environment
 -- with the entries of that shape. In a comment `S` is a stack that is not looked into, with the top on the right.
-use Rattle.std.specs.Prelude.{ℕ, suc, ◌-◌, pos, negsuc, List, [], ◌∷◌, map, length, zero, Option, Some, None, slice_get}
+use Rattle.std.specs.Prelude.{ℕ, suc, ◌-◌, pos, negsuc, List, [], ◌∷◌, map, fold, length, zero, Option, Some, None, slice_get}
 use Rattle.hum_core.specs.declared.tested.TestUnit.{TestUnit}
 use Rattle.hum_core.specs.declared.tested.TestUnit.TheVariants as unit
 use Rattle.hum_core.specs.declared.tested.TestStmt.{TestStmt}
@@ -83,8 +83,7 @@ branches (b ∷ more) other shape = λ k s. let next = branches more other shape
 -- ---- patterns and arms
 
 abbrev pub after_all : List OfTest → ℕ → ℕ
-after_all [] n = n
-after_all (t ∷ ts) n = after_all ts (t.after n)
+after_all ts n = fold (λ before (t : OfTest). t.after before) n ts
 
 abbrev pub tests : List OfTest → Shape → (miss n : ℕ) → Piece
 tests [] shape miss n = nothing
@@ -186,10 +185,14 @@ statements (s ∷ more) shape = statement s shape ▷ statements more (shape_aft
 
 -- ---- units
 
--- a function: from `S return argument env` to `S value` at return; a block: from `S return env` to `S` at return
-abbrev pub unit_code : TestUnit → Shape → Piece
-unit_code (unit.Abs ts e) shape =
+-- a function: from `S return argument env` to `S value` at return
+abbrev pub function_code : List Test → TestExpr → Shape → Piece
+function_code ts e shape =
     roll (pos 2) ▷ matching (map test_code ts) shape ▷ expr_code e (with_singles (after_all (map test_code ts) 0) shape) ▷ roll (pos 2) ▷ jump
+
+-- a unit: a function, or a block, from `S return env` to `S` at return
+abbrev pub unit_code : TestUnit → Shape → Piece
+unit_code (unit.Abs ts e) shape = function_code ts e shape
 unit_code (unit.Block ss) shape = statements ss shape
 
 -- the units from the last to the first, each in its shape, and the numbers of their first instructions

@@ -8,10 +8,10 @@ ghost use Rattle.hum_emit.specs.Emitting.{emitted, with_cells, item_cell};
 use crate::emitter::{Emitter, FALSE, NIL, PAIR_TYPE, SYMBOL_TYPE, TRUE, UNDEF, operand};
 use crate::instruction::{Datum, Field};
 use hum_core::Const;
-use std::alloc::AllocError;
+use std::alloc::AllocError as NoMemory;
 
 // The cell of an item of a list.
-fn item(out: &mut Emitter<'_>, value: u32, is_last: bool) -> Result<(), AllocError>
+fn item(out: &mut Emitter<'_>, value: u32, is_last: bool) -> Result<(), NoMemory>
     ensures { OnOk result (emitted out.new ≡ with_cells (item_cell (length (emitted out.old).cells) value is_last ∷ []) (emitted out.old)) }
 {
     let at = out.next_datum()?;
@@ -24,17 +24,17 @@ fn item(out: &mut Emitter<'_>, value: u32, is_last: bool) -> Result<(), AllocErr
 }
 
 // The number behind that one.
-fn next(at: u32) -> Result<u32, AllocError>
+fn next(at: u32) -> Result<u32, NoMemory>
     ensures { IfOk result (λ behind. behind ≡ at + 1) }
 {
     if at == u32::MAX {
-        return Err(AllocError);
+        return Err(NoMemory);
     }
     Ok(at + 1)
 }
 
 /// The cells of a text, and its word.
-pub fn text(out: &mut Emitter<'_>, points: &[char]) -> Result<Field, AllocError>
+pub fn text(out: &mut Emitter<'_>, points: &[char]) -> Result<Field, NoMemory>
     ensures { IfOk result (λ word. (emitted out.new, word) ≡ spec.text points.now (emitted out.old)) }
 {
     let at = out.next_datum()?;
@@ -45,7 +45,7 @@ pub fn text(out: &mut Emitter<'_>, points: &[char]) -> Result<Field, AllocError>
 }
 
 // The cells of a name.
-fn name_cells(out: &mut Emitter<'_>, name: &[u8]) -> Result<(), AllocError>
+fn name_cells(out: &mut Emitter<'_>, name: &[u8]) -> Result<(), NoMemory>
     ensures { OnOk result (emitted out.new ≡ with_cells (spec.list_cells (length (emitted out.old).cells) name.now) (emitted out.old)) }
 {
     for (i, byte) in name.iter().enumerate() {
@@ -62,7 +62,7 @@ fn list_field(at: u32, is_empty: bool) -> Field
 }
 
 // The word of a symbol, whose cell and name are data from here on, if they were not before.
-fn symbol<'a>(out: &mut Emitter<'a>, name: &'a [u8]) -> Result<Field, AllocError>
+fn symbol<'a>(out: &mut Emitter<'a>, name: &'a [u8]) -> Result<Field, NoMemory>
     ensures { IfOk result (λ word. (emitted out.new, word) ≡ spec.symbol_at ((emitted out.old).symbols name.now) name.now (emitted out.old)) }
 {
     if let Some(at) = out.symbol(name) {
@@ -80,7 +80,7 @@ fn symbol<'a>(out: &mut Emitter<'a>, name: &'a [u8]) -> Result<Field, AllocError
 }
 
 /// The word of a constant.
-pub fn constant<'a>(out: &mut Emitter<'a>, constant: &'a Const) -> Result<Field, AllocError>
+pub fn constant<'a>(out: &mut Emitter<'a>, constant: &'a Const) -> Result<Field, NoMemory>
     ensures { IfOk result (λ word. (emitted out.new, word) ≡ spec.constant constant.now (emitted out.old)) }
 {
     match constant {

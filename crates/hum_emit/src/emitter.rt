@@ -9,17 +9,23 @@ ghost use Rattle.hum_emit.specs.Emitted as spec;
 ghost use Rattle.hum_emit.specs.Emitting.{emitted, with_cells, named, only_code};
 
 use crate::instruction::{Datum, Field, Instruction};
-use std::alloc::{AllocError, Global};
+use crate::operations;
+use std::alloc::{AllocError as NoMemory, Global};
 use std::collections::HashMap;
 
-/// The numbers of the constants.
+/// The word `#?`.
 pub const UNDEF: Field = Field::Constant(0);
 
+/// The empty list.
 pub const NIL: Field = Field::Constant(1);
 
+/// The truth value that is false.
 pub const FALSE: Field = Field::Constant(2);
 
+/// The truth value that is true.
 pub const TRUE: Field = Field::Constant(3);
+
+// The numbers of the constants that are types.
 
 pub const ACTOR_TYPE: u32 = 6;
 
@@ -40,31 +46,31 @@ pub struct Emitter<'a> {
 }
 
 // A number of an instruction or a datum.
-fn number(count: usize) -> Result<u32, AllocError>
+fn number(count: usize) -> Result<u32, NoMemory>
     ensures { IfOk result (λ number. number ≡ count) }
 {
     if count > u32::MAX as usize {
-        return Err(AllocError);
+        return Err(NoMemory);
     }
     Ok(count as u32)
 }
 
-// The operand of that number.
-pub fn operand(count: usize) -> Result<Field, AllocError>
+/// The operand of that number.
+pub fn operand(count: usize) -> Result<Field, NoMemory>
     ensures { IfOk result (λ word. word ≡ field.Number (pos count)) }
 {
     if count > i32::MAX as usize {
-        return Err(AllocError);
+        return Err(NoMemory);
     }
     Ok(Field::Number(count as i32))
 }
 
 // The operand that reads the tail of a list after so many items.
-fn minus(count: usize) -> Result<Field, AllocError>
+fn minus(count: usize) -> Result<Field, NoMemory>
     ensures { IfOk result (λ word. word ≡ field.Number (minus count)) }
 {
     if count > i32::MAX as usize {
-        return Err(AllocError);
+        return Err(NoMemory);
     }
     Ok(Field::Number(-(count as i32)))
 }
@@ -92,7 +98,7 @@ impl<'a> Emitter<'a> {
 
     /// One instruction.
     #[tactic(auto, unfolding(crate::specs::Emitting::emitted))]
-    fn put(&mut self, instruction: Instruction) -> Result<u32, AllocError>
+    fn put(&mut self, instruction: Instruction) -> Result<u32, NoMemory>
         ensures { IfOk result (λ at. (emitted self.new, at) ≡ spec.put instruction (emitted self.old)) }
     {
         let at = number(self.code.len())?;
@@ -101,7 +107,7 @@ impl<'a> Emitter<'a> {
     }
 
     /// One instruction that goes on with what comes next.
-    fn one(&mut self, operation: u32, field: Field, k: u32) -> Result<u32, AllocError>
+    fn one(&mut self, operation: u32, field: Field, k: u32) -> Result<u32, NoMemory>
         ensures { IfOk result (λ at. (emitted self.new, at) ≡ spec.one operation field k (emitted self.old)) }
     {
         self.put(Instruction {
@@ -112,151 +118,167 @@ impl<'a> Emitter<'a> {
     }
 
     /// Goes on with what comes next where the value on top is true, and else at `miss`.
-    pub fn choose(&mut self, miss: u32, k: u32) -> Result<u32, AllocError>
+    pub fn choose(&mut self, miss: u32, k: u32) -> Result<u32, NoMemory>
         ensures { IfOk result (λ at. (emitted self.new, at) ≡ spec.choose miss k (emitted self.old)) }
     {
         self.put(Instruction {
-            operation: 15,
+            operation: operations::IF,
             field: Field::Place(k),
             next: Some(miss),
         })
     }
 
     /// Goes to a routine, which comes back to what comes next.
-    pub fn calls(&mut self, routine: u32, k: u32) -> Result<u32, AllocError>
+    pub fn calls(&mut self, routine: u32, k: u32) -> Result<u32, NoMemory>
         ensures { IfOk result (λ at. (emitted self.new, at) ≡ spec.calls routine k (emitted self.old)) }
     {
         self.put(Instruction {
-            operation: 0,
+            operation: operations::PUSH,
             field: Field::Place(k),
             next: Some(routine),
         })
     }
 
     /// Goes where the value on top says.
-    pub fn jump(&mut self) -> Result<u32, AllocError>
+    pub fn jump(&mut self) -> Result<u32, NoMemory>
         ensures { IfOk result (λ at. (k : ℕ) → (emitted self.new, at) ≡ spec.jump k (emitted self.old)) }
     {
         self.put(Instruction {
-            operation: 16,
+            operation: operations::JUMP,
             field: UNDEF,
             next: None,
         })
     }
 
-    pub fn push(&mut self, word: Field, k: u32) -> Result<u32, AllocError>
+    /// Puts a word on the stack.
+    pub fn push(&mut self, word: Field, k: u32) -> Result<u32, NoMemory>
         ensures { IfOk result (λ at. (emitted self.new, at) ≡ spec.push word k (emitted self.old)) }
     {
-        self.one(0, word, k)
+        self.one(operations::PUSH, word, k)
     }
 
-    pub fn dup(&mut self, n: usize, k: u32) -> Result<u32, AllocError>
+    /// Puts the `n` values on top there once more.
+    pub fn dup(&mut self, n: usize, k: u32) -> Result<u32, NoMemory>
         ensures { IfOk result (λ at. (emitted self.new, at) ≡ spec.dup n k (emitted self.old)) }
     {
-        self.one(1, operand(n)?, k)
+        self.one(operations::DUP, operand(n)?, k)
     }
 
-    pub fn drop(&mut self, n: usize, k: u32) -> Result<u32, AllocError>
+    /// Takes `n` values off.
+    pub fn drop(&mut self, n: usize, k: u32) -> Result<u32, NoMemory>
         ensures { IfOk result (λ at. (emitted self.new, at) ≡ spec.drop n k (emitted self.old)) }
     {
-        self.one(2, operand(n)?, k)
+        self.one(operations::DROP, operand(n)?, k)
     }
 
-    pub fn pick(&mut self, n: usize, k: u32) -> Result<u32, AllocError>
+    /// Puts the `n`-th value there once more, the one on top being the first.
+    pub fn pick(&mut self, n: usize, k: u32) -> Result<u32, NoMemory>
         ensures { IfOk result (λ at. (emitted self.new, at) ≡ spec.pick n k (emitted self.old)) }
     {
-        self.one(3, operand(n)?, k)
+        self.one(operations::PICK, operand(n)?, k)
     }
 
-    pub fn pair(&mut self, n: usize, k: u32) -> Result<u32, AllocError>
+    /// Makes a list of the `n` values on top, the one on top first; the value below them is what is left of it.
+    pub fn pair(&mut self, n: usize, k: u32) -> Result<u32, NoMemory>
         ensures { IfOk result (λ at. (emitted self.new, at) ≡ spec.pair n k (emitted self.old)) }
     {
-        self.one(6, operand(n)?, k)
+        self.one(operations::PAIR, operand(n)?, k)
     }
 
-    pub fn part(&mut self, n: usize, k: u32) -> Result<u32, AllocError>
+    /// Takes a list apart: the first of its `n` items comes on top, and what is left of it below them.
+    pub fn part(&mut self, n: usize, k: u32) -> Result<u32, NoMemory>
         ensures { IfOk result (λ at. (emitted self.new, at) ≡ spec.part n k (emitted self.old)) }
     {
-        self.one(7, operand(n)?, k)
+        self.one(operations::PART, operand(n)?, k)
     }
 
-    pub fn state(&mut self, n: usize, k: u32) -> Result<u32, AllocError>
+    /// Reads the `n`-th item of the actor's state.
+    pub fn state(&mut self, n: usize, k: u32) -> Result<u32, NoMemory>
         ensures { IfOk result (λ at. (emitted self.new, at) ≡ spec.state n k (emitted self.old)) }
     {
-        self.one(18, operand(n)?, k)
+        self.one(operations::STATE, operand(n)?, k)
     }
 
-    pub fn roll(&mut self, n: usize, k: u32) -> Result<u32, AllocError>
+    /// Brings the `n`-th value to the top.
+    pub fn roll(&mut self, n: usize, k: u32) -> Result<u32, NoMemory>
         ensures { IfOk result (λ at. (emitted self.new, at) ≡ spec.roll (pos n) k (emitted self.old)) }
     {
-        self.one(4, operand(n)?, k)
+        self.one(operations::ROLL, operand(n)?, k)
     }
 
-    pub fn nth(&mut self, n: usize, k: u32) -> Result<u32, AllocError>
+    /// Reads the `n`-th item of a list.
+    pub fn nth(&mut self, n: usize, k: u32) -> Result<u32, NoMemory>
         ensures { IfOk result (λ at. (emitted self.new, at) ≡ spec.nth (pos n) k (emitted self.old)) }
     {
-        self.one(8, operand(n)?, k)
+        self.one(operations::NTH, operand(n)?, k)
     }
 
     /// What is left of a list behind `n` items.
-    pub fn tail(&mut self, n: usize, k: u32) -> Result<u32, AllocError>
+    pub fn tail(&mut self, n: usize, k: u32) -> Result<u32, NoMemory>
         ensures { IfOk result (λ at. (emitted self.new, at) ≡ spec.nth (minus n) k (emitted self.old)) }
     {
-        self.one(8, minus(n)?, k)
+        self.one(operations::NTH, minus(n)?, k)
     }
 
     /// A cell of a type with two words more.
-    pub fn quad(&mut self, k: u32) -> Result<u32, AllocError>
+    pub fn quad(&mut self, k: u32) -> Result<u32, NoMemory>
         ensures { IfOk result (λ at. (emitted self.new, at) ≡ spec.quad (pos 3) k (emitted self.old)) }
     {
-        self.one(9, Field::Number(3), k)
+        self.one(operations::QUAD, Field::Number(3), k)
     }
 
-    pub fn typeq(&mut self, constant: u32, k: u32) -> Result<u32, AllocError>
+    /// Tests whether the value on top is of the type that the constant of that number is.
+    pub fn typeq(&mut self, constant: u32, k: u32) -> Result<u32, NoMemory>
         ensures { IfOk result (λ at. (emitted self.new, at) ≡ spec.typeq constant k (emitted self.old)) }
     {
-        self.one(11, Field::Constant(constant), k)
+        self.one(operations::TYPEQ, Field::Constant(constant), k)
     }
 
-    pub fn eq(&mut self, word: Field, k: u32) -> Result<u32, AllocError>
+    /// Tests whether the value on top is that word.
+    pub fn eq(&mut self, word: Field, k: u32) -> Result<u32, NoMemory>
         ensures { IfOk result (λ at. (emitted self.new, at) ≡ spec.eq word k (emitted self.old)) }
     {
-        self.one(12, word, k)
+        self.one(operations::EQ, word, k)
     }
 
-    pub fn myself(&mut self, k: u32) -> Result<u32, AllocError>
+    /// Reads the event's own actor.
+    pub fn myself(&mut self, k: u32) -> Result<u32, NoMemory>
         ensures { IfOk result (λ at. (emitted self.new, at) ≡ spec.myself k (emitted self.old)) }
     {
-        self.one(19, Field::Number(0), k)
+        self.one(operations::MY, Field::Number(0), k)
     }
 
-    pub fn actor_send(&mut self, k: u32) -> Result<u32, AllocError>
+    /// Sends a message.
+    pub fn actor_send(&mut self, k: u32) -> Result<u32, NoMemory>
         ensures { IfOk result (λ at. (emitted self.new, at) ≡ spec.send k (emitted self.old)) }
     {
-        self.one(20, Field::Number(0), k)
+        self.one(operations::ACTOR, Field::Number(0), k)
     }
 
-    pub fn actor_create(&mut self, k: u32) -> Result<u32, AllocError>
+    /// Creates an actor.
+    pub fn actor_create(&mut self, k: u32) -> Result<u32, NoMemory>
         ensures { IfOk result (λ at. (emitted self.new, at) ≡ spec.create k (emitted self.old)) }
     {
-        self.one(20, Field::Number(2), k)
+        self.one(operations::ACTOR, Field::Number(2), k)
     }
 
-    pub fn actor_become(&mut self, k: u32) -> Result<u32, AllocError>
+    /// Sets what the actor is to do with its next message.
+    pub fn actor_become(&mut self, k: u32) -> Result<u32, NoMemory>
         ensures { IfOk result (λ at. (emitted self.new, at) ≡ spec.become k (emitted self.old)) }
     {
-        self.one(20, Field::Number(4), k)
+        self.one(operations::ACTOR, Field::Number(4), k)
     }
 
-    pub fn debug(&mut self, k: u32) -> Result<u32, AllocError>
+    /// Does nothing: it stands for a step that needs no other instruction.
+    pub fn debug(&mut self, k: u32) -> Result<u32, NoMemory>
         ensures { IfOk result (λ at. (emitted self.new, at) ≡ spec.debug k (emitted self.old)) }
     {
-        self.one(26, UNDEF, k)
+        self.one(operations::DEBUG, UNDEF, k)
     }
 
     /// The number of the next datum.
     #[tactic(auto, unfolding(crate::specs::Emitting::emitted))]
-    pub fn next_datum(&self) -> Result<u32, AllocError>
+    pub fn next_datum(&self) -> Result<u32, NoMemory>
         ensures { IfOk result (λ at. at ≡ length (emitted self.now).cells) }
     {
         number(self.cells.len())
@@ -264,7 +286,7 @@ impl<'a> Emitter<'a> {
 
     /// One datum.
     #[tactic(auto, unfolding(crate::specs::Emitting::emitted))]
-    pub fn datum(&mut self, datum: Datum) -> Result<(), AllocError>
+    pub fn datum(&mut self, datum: Datum) -> Result<(), NoMemory>
         ensures { OnOk result (emitted self.new ≡ with_cells (datum ∷ []) (emitted self.old)) }
     {
         self.cells.push(datum)?;
@@ -284,7 +306,7 @@ impl<'a> Emitter<'a> {
 
     /// From here on the symbol has that datum.
     #[tactic(auto, unfolding(crate::specs::Emitting::emitted))]
-    pub fn name_symbol(&mut self, name: &'a [u8], at: u32) -> Result<(), AllocError>
+    pub fn name_symbol(&mut self, name: &'a [u8], at: u32) -> Result<(), NoMemory>
         ensures { OnOk result (emitted self.new ≡ named name.now at (emitted self.old)) }
     {
         self.symbols.insert(name, at)?;

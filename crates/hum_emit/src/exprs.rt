@@ -14,7 +14,7 @@ use crate::instruction::Field;
 use crate::routines::{APPLY, CALL, NO_MATCH, NO_TRUTH, SAME};
 use crate::scope::{Scope, block, function, variable};
 use hum_core::{Const, Test, TestArm, TestBranch, TestExpr};
-use std::alloc::AllocError;
+use std::alloc::AllocError as NoMemory;
 
 /// An expression: from `S env` to `S value`.
 #[cycle(emit)]
@@ -23,7 +23,7 @@ pub fn expr<'a>(
     scope: &Scope<'_, 'a>,
     e: &'a TestExpr,
     k: u32,
-) -> Result<u32, AllocError>
+) -> Result<u32, NoMemory>
     ensures { IfOk result (λ at. (emitted out.new, at) ≡ spec.expr_code e.now (shape_in scope.now) k (emitted out.old)) }
 {
     match e {
@@ -81,7 +81,7 @@ fn tuple<'a>(
     scope: &Scope<'_, 'a>,
     items: &'a [TestExpr],
     k: u32,
-) -> Result<u32, AllocError>
+) -> Result<u32, NoMemory>
     ensures { IfOk result (λ at. (emitted out.new, at) ≡ spec.tuple (map spec.expr_code items.now) (shape_in scope.now) k (emitted out.old)) }
 {
     let count = items.len();
@@ -100,7 +100,7 @@ fn tuple<'a>(
     }
 }
 
-fn pairs(out: &mut Emitter<'_>, count: usize, k: u32) -> Result<u32, AllocError>
+fn pairs(out: &mut Emitter<'_>, count: usize, k: u32) -> Result<u32, NoMemory>
     ensures { IfOk result (λ at. (emitted out.new, at) ≡ spec.pairs count k (emitted out.old)) }
 {
     let mut at = k;
@@ -119,7 +119,7 @@ fn branches<'a>(
     conditions: &'a [TestBranch],
     other: u32,
     k: u32,
-) -> Result<u32, AllocError>
+) -> Result<u32, NoMemory>
     ensures { IfOk result (λ at. (emitted out.new, at) ≡ spec.branches (map branch_code conditions.now) other (shape_in scope.now) k (emitted out.old)) }
 {
     let count = conditions.len();
@@ -138,7 +138,7 @@ fn branch<'a>(
     branch: &'a TestBranch,
     other: u32,
     k: u32,
-) -> Result<u32, AllocError>
+) -> Result<u32, NoMemory>
     ensures { IfOk result (λ at. (emitted out.new, at) ≡ branch_code branch.now (shape_in scope.now) other k (emitted out.old)) }
 {
     let yes = block(out, branch.block, k)?;
@@ -153,7 +153,7 @@ fn branch<'a>(
 }
 
 // From `S kept` to `S kept env values`.
-fn restore(out: &mut Emitter<'_>, k: u32) -> Result<u32, AllocError>
+fn restore(out: &mut Emitter<'_>, k: u32) -> Result<u32, NoMemory>
     ensures { IfOk result (λ at. (emitted out.new, at) ≡ spec.restore k (emitted out.old)) }
 {
     let k = out.nth(1, k)?;
@@ -169,7 +169,7 @@ fn arms<'a>(
     scope: &Scope<'_, 'a>,
     arms: &'a [TestArm],
     k: u32,
-) -> Result<u32, AllocError>
+) -> Result<u32, NoMemory>
     ensures { IfOk result (λ at. (emitted out.new, at) ≡ spec.arms (map arm_code arms.now) (shape_in scope.now) k (emitted out.old)) }
 {
     let count = arms.len();
@@ -190,7 +190,7 @@ fn arms<'a>(
 }
 
 // Before the first arm, where others are behind it: from `S #nil env values` to the same with them kept.
-fn first_begins(out: &mut Emitter<'_>, k: u32) -> Result<u32, AllocError>
+fn first_begins(out: &mut Emitter<'_>, k: u32) -> Result<u32, NoMemory>
     ensures { IfOk result (λ at. (emitted out.new, at) ≡ (piece.pair 2 ▷ spec.restore) k (emitted out.old)) }
 {
     let k = restore(out, k)?;
@@ -198,7 +198,7 @@ fn first_begins(out: &mut Emitter<'_>, k: u32) -> Result<u32, AllocError>
 }
 
 // Before an arm behind the first one, where others are behind it: from `S kept x y`.
-fn later_begins(out: &mut Emitter<'_>, k: u32) -> Result<u32, AllocError>
+fn later_begins(out: &mut Emitter<'_>, k: u32) -> Result<u32, NoMemory>
     ensures { IfOk result (λ at. (emitted out.new, at) ≡ (piece.drop 2 ▷ spec.restore) k (emitted out.old)) }
 {
     let k = restore(out, k)?;
@@ -206,7 +206,7 @@ fn later_begins(out: &mut Emitter<'_>, k: u32) -> Result<u32, AllocError>
 }
 
 // Before the last of several arms: from `S kept x y`.
-fn last_begins(out: &mut Emitter<'_>, k: u32) -> Result<u32, AllocError>
+fn last_begins(out: &mut Emitter<'_>, k: u32) -> Result<u32, NoMemory>
     ensures { IfOk result (λ at. (emitted out.new, at) ≡ (piece.drop 2 ▷ piece.part 2) k (emitted out.old)) }
 {
     let k = out.part(2, k)?;
@@ -221,7 +221,7 @@ fn arm<'a>(
     arm: &'a TestArm,
     miss: u32,
     k: u32,
-) -> Result<u32, AllocError>
+) -> Result<u32, NoMemory>
     ensures { IfOk result (λ at. (emitted out.new, at) ≡ arm_code arm.now (shape_in scope.now) miss k (emitted out.old)) }
 {
     let pattern = arm.pattern.as_slice();
@@ -231,7 +231,7 @@ fn arm<'a>(
 }
 
 // Before the value of an arm that matches: from `S kept env values` to `S env`.
-fn matched(out: &mut Emitter<'_>, k: u32) -> Result<u32, AllocError>
+fn matched(out: &mut Emitter<'_>, k: u32) -> Result<u32, NoMemory>
     ensures { IfOk result (λ at. (emitted out.new, at) ≡ (piece.drop 1 ▷ piece.roll (pos 2) ▷ piece.drop 1) k (emitted out.old)) }
 {
     let k = out.drop(1, k)?;
@@ -288,7 +288,7 @@ fn tests<'a>(
     tests: &'a [Test],
     miss: u32,
     k: u32,
-) -> Result<u32, AllocError>
+) -> Result<u32, NoMemory>
     ensures { IfOk result (λ at. (emitted out.new, at) ≡ spec.tests (map spec.test_code tests.now) (shape_in scope.now) miss 0 k (emitted out.old)) }
 {
     let count = tests.len();
@@ -311,7 +311,7 @@ fn test<'a>(
     miss: u32,
     n: usize,
     k: u32,
-) -> Result<u32, AllocError>
+) -> Result<u32, NoMemory>
     ensures { IfOk result (λ at. (emitted out.new, at) ≡ (spec.test_code test.now).code (shape_in scope.now) miss n k (emitted out.old)) }
 {
     match test {
@@ -333,7 +333,7 @@ fn test<'a>(
 }
 
 // The value in front is a pair.
-fn pair(out: &mut Emitter<'_>, miss: u32, k: u32) -> Result<u32, AllocError>
+fn pair(out: &mut Emitter<'_>, miss: u32, k: u32) -> Result<u32, NoMemory>
     ensures { IfOk result (λ at. (emitted out.new, at) ≡ (spec.of_test layer.Pair).code [] miss 0 k (emitted out.old)) }
 {
     let k = out.pair(2, k)?;
@@ -346,7 +346,7 @@ fn pair(out: &mut Emitter<'_>, miss: u32, k: u32) -> Result<u32, AllocError>
 }
 
 // The value in front is a constant.
-fn is<'a>(out: &mut Emitter<'a>, value: &'a Const, miss: u32, k: u32) -> Result<u32, AllocError>
+fn is<'a>(out: &mut Emitter<'a>, value: &'a Const, miss: u32, k: u32) -> Result<u32, NoMemory>
     ensures { IfOk result (λ at. (emitted out.new, at) ≡ (spec.of_test (layer.Test::Is value.now)).code [] miss 0 k (emitted out.old)) }
 {
     let word = constant(out, value)?;
@@ -358,7 +358,7 @@ fn is<'a>(out: &mut Emitter<'a>, value: &'a Const, miss: u32, k: u32) -> Result<
 }
 
 // The value in front is bound.
-fn bind(out: &mut Emitter<'_>, k: u32) -> Result<u32, AllocError>
+fn bind(out: &mut Emitter<'_>, k: u32) -> Result<u32, NoMemory>
     ensures { IfOk result (λ at. (emitted out.new, at) ≡ (spec.of_test layer.Bind).code [] 0 0 k (emitted out.old)) }
 {
     let k = out.roll(2, k)?;
@@ -374,7 +374,7 @@ pub fn matching<'a>(
     scope: &Scope<'_, 'a>,
     pattern: &'a [Test],
     k: u32,
-) -> Result<u32, AllocError>
+) -> Result<u32, NoMemory>
     ensures { IfOk result (λ at. (emitted out.new, at) ≡ spec.matching (map spec.test_code pattern.now) (shape_in scope.now) k (emitted out.old)) }
 {
     let k = out.drop(1, k)?;

@@ -20,15 +20,19 @@ pub enum Field {
 pub struct Instruction {
     /// The number of its operation.
     pub operation: u32,
+    /// Its operand.
     pub field: Field,
     /// The number of the instruction that comes next, where one does.
     pub next: Option<u32>,
 }
 
-/// A cell of the image that is no instruction: its type, by the number of the constant, and two words.
+/// A cell of the image that is no instruction.
 #[derive(Clone, Copy, Debug, PartialEq, Eq)]
 pub struct Datum {
+    /// The number of the constant that is its type.
     pub kind: u32,
+    /// Its first word behind the type.
     pub first: Field,
+    /// Its second word.
     pub second: Field,
 }

@@ -1,7 +1,8 @@
 //! What is so of emitted code.
 
-ghost use Rattle.hum_emit.specs.Compiled.{CompiledCodeMeans, ProgramsLink, LabelsArePlaces};
-ghost use Rattle.hum_emit.specs.Laws.{LinkedHolds, EmittedCodeStands, ShapesOfProgramsFit, EmissionsAreMade, EmissionsAreUsed};
+ghost use Rattle.hum_emit.specs.Compiled.{CompiledImagesHold, LabelsArePlaces};
+ghost use Rattle.hum_emit.specs.Laws.{LinkedHolds, EmittedCodeStands, ShapesOfProgramsFit, EmissionsAreMade};
+ghost use Rattle.hum_emit.specs.Size.{EmissionsAreSmall, ModulesAreSmall, ProgramsLink};
 
 /// A store with the cells that the module of an emission links to holds each instruction and each datum at its place, and the boot word
 /// is the place of the instruction that was made last.
@@ -27,21 +28,26 @@ pub fn emissions_are_made()
     ensures { EmissionsAreMade }
 {}
 
-/// What is emitted of a program's units has no operation of dictionaries, deques or sponsors, and of those of actors only to send, to create
+/// The image that a program's module links to holds the program: in each store with its cells the code stands for the program, which does
+/// what the program means by the laws of `hum_code`; the boot word is the place of the first event's code, which runs the file; and each cell
+/// that spells an operation spells one of programs, none of dictionaries, deques or sponsors, and of those of actors only to send, to create
 /// and to become.
-pub fn emissions_have_few_operations()
-    ensures { EmissionsAreUsed }
+pub fn compiled_images_hold_their_programs()
+    ensures { CompiledImagesHold }
 {}
 
-/// In each store that has the cells that a program's module links to, the boot word is the place of the first event's code, and each event
-/// does what the program means, whatever others do between its instructions: it commits only where its delivery is decided as committed, with
-/// a record that stands for what was gathered; it fails only where its delivery is decided as failed, with its code; and where s steps decide
-/// its delivery, it ends so or goes on, within the bound at each of its instructions.
-pub fn compiled_code_means_the_program()
-    ensures { CompiledCodeMeans }
+/// What is emitted of a program has at most 16 items for each part of the program, and 4,080 more.
+pub fn emissions_are_small()
+    ensures { EmissionsAreSmall }
 {}
 
-/// The module of a program links, but where it has more instructions and data than an image has room for.
+/// The module of a file that tokens spell has at most 64 items for each unit of their weight, and 4,096 more.
+pub fn modules_are_small()
+    ensures { ModulesAreSmall }
+{}
+
+/// The module of each file whose tokens are not heavier than those of a text may be links, and there are fewer than 2^32 instructions and
+/// fewer than 2^32 data.
 pub fn programs_link()
     ensures { ProgramsLink }
 {}

@@ -4,7 +4,8 @@
 //! `Templates.antt` is the table of the emitter, the code of each part of a program; `Runtime.antt` the fixed code, a line an instruction;
 //! `Program.antt` all that a program becomes, whose units stand in the shapes of `Shapes.antt`, which fit: `shapes_of_programs_fit`. What is
 //! emitted stands for the program in each store that holds it: `emitted_code_stands`. `emit` makes the module of a program (`Module.antt`),
-//! and the image of a well made emission holds each instruction and each datum at its place: `linked_holds` (`Holds.antt`).
+//! the image of a well made emission holds each instruction and each datum at its place, `linked_holds` (`Holds.antt`), and so the image
+//! that a program's module links to holds the program: `compiled_images_hold_their_programs` (`Compiled.antt`).
 #![tactic(auto)]
 
 mod data;
@@ -13,6 +14,7 @@ mod exprs;
 mod instruction;
 mod laws;
 mod module;
+mod operations;
 mod routines;
 mod rows;
 mod scope;
@@ -23,8 +25,10 @@ mod whole;
 
 pub use instruction::{Datum, Field, Instruction};
 pub use laws::{
-    compiled_code_means_the_program, emissions_are_made, emissions_have_few_operations,
-    emitted_code_stands, labels_are_places, linked_holds, programs_link, shapes_of_programs_fit,
+    compiled_images_hold_their_programs, emissions_are_made, emissions_are_small,
+    emitted_code_stands, labels_are_places, linked_holds, modules_are_small, programs_link,
+    shapes_of_programs_fit,
 };
 pub use module::module_of;
+pub use std::alloc::AllocError as NoMemory;
 pub use whole::emit;

@@ -9,17 +9,15 @@ ghost use Rattle.hum_emit.specs.Made.{Made};
 ghost use Rattle.hum_emit.specs.Module as spec;
 
 use crate::instruction::{Datum, Field, Instruction};
+use crate::routines::APPLY;
 use cap_words::Name;
 use itoa::Buffer;
-use std::alloc::{AllocError, Global};
+use std::alloc::{AllocError as NoMemory, Global};
 use uasm_read::{Item, Items, Module, Names, Operand};
-
-// The instruction at which the routine begins that applies a behaviour.
-const APPLY_PLACE: u32 = 28;
 
 // A letter and a number.
 #[tactic(auto, using(crate::proofs::Labels::label_is_visible))]
-fn label(alloc: Global, letter: u8, number: u32) -> Result<Name, AllocError>
+fn label(alloc: Global, letter: u8, number: u32) -> Result<Name, NoMemory>
     requires { (97 ≤ letter) × (letter ≤ 122) }
     ensures { IfOk result (λ name. name ≡ letter ∷ decimal number) }
 {
@@ -30,25 +28,25 @@ fn label(alloc: Global, letter: u8, number: u32) -> Result<Name, AllocError>
     Ok(Name::new(bytes).unwrap())
 }
 
-fn code_label(alloc: Global, i: u32) -> Result<Name, AllocError>
+fn code_label(alloc: Global, i: u32) -> Result<Name, NoMemory>
     ensures { IfOk result (λ name. name ≡ spec.code_label i) }
 {
     label(alloc, b'c', i)
 }
 
-fn unit_label(alloc: Global, k: u32) -> Result<Name, AllocError>
+fn unit_label(alloc: Global, k: u32) -> Result<Name, NoMemory>
     ensures { IfOk result (λ name. name ≡ spec.unit_label k) }
 {
     label(alloc, b'u', k)
 }
 
-fn datum_label(alloc: Global, j: u32) -> Result<Name, AllocError>
+fn datum_label(alloc: Global, j: u32) -> Result<Name, NoMemory>
     ensures { IfOk result (λ name. name ≡ spec.datum_label j) }
 {
     label(alloc, b'd', j)
 }
 
-fn operand(alloc: Global, field: Field) -> Result<Operand, AllocError>
+fn operand(alloc: Global, field: Field) -> Result<Operand, NoMemory>
     ensures { IfOk result (λ word. word ≡ spec.operand_of field) }
 {
     match field {
@@ -60,7 +58,7 @@ fn operand(alloc: Global, field: Field) -> Result<Operand, AllocError>
     }
 }
 
-fn next_operand(alloc: Global, next: Option<u32>) -> Result<Operand, AllocError>
+fn next_operand(alloc: Global, next: Option<u32>) -> Result<Operand, NoMemory>
     ensures { IfOk result (λ word. word ≡ spec.next_operand next) }
 {
     match next {
@@ -69,7 +67,7 @@ fn next_operand(alloc: Global, next: Option<u32>) -> Result<Operand, AllocError>
     }
 }
 
-fn item(alloc: Global, labels: Names, x: &Instruction) -> Result<Item, AllocError>
+fn item(alloc: Global, labels: Names, x: &Instruction) -> Result<Item, NoMemory>
     requires { x.now.operation < 2 ^ 30 }
     ensures { IfOk result (λ made. made ≡ spec.item_of labels x.now) }
 {
@@ -84,7 +82,7 @@ fn item(alloc: Global, labels: Names, x: &Instruction) -> Result<Item, AllocErro
     })
 }
 
-fn datum_item(alloc: Global, j: u32, d: &Datum) -> Result<Item, AllocError>
+fn datum_item(alloc: Global, j: u32, d: &Datum) -> Result<Item, NoMemory>
     ensures { IfOk result (λ made. made ≡ spec.datum_item j d.now) }
 {
     let mut labels = Vec::new(alloc);
@@ -101,7 +99,7 @@ fn datum_item(alloc: Global, j: u32, d: &Datum) -> Result<Item, AllocError>
 }
 
 // The name that these bytes are.
-fn fixed_name(alloc: Global, bytes: &[u8]) -> Result<Name, AllocError>
+fn fixed_name(alloc: Global, bytes: &[u8]) -> Result<Name, NoMemory>
     requires { IsTrue (is_name bytes.now) }
     ensures { IfOk result (λ name. name ≡ bytes.now) }
 {
@@ -132,7 +130,7 @@ fn add_unit_label(
     labels: &mut Vec<Name>,
     named: bool,
     k: u32,
-) -> Result<(), AllocError>
+) -> Result<(), NoMemory>
     ensures { OnOk result (labels.new.items ≡ labels.old.items ++ spec.named_if named (spec.unit_label k)) }
 {
     if named {
@@ -146,7 +144,7 @@ fn add_fixed_label(
     labels: &mut Vec<Name>,
     named: bool,
     bytes: &[u8],
-) -> Result<(), AllocError>
+) -> Result<(), NoMemory>
     requires { IsTrue (is_name bytes.now) }
     ensures { OnOk result (labels.new.items ≡ labels.old.items ++ spec.named_if named bytes.now) }
 {
@@ -162,13 +160,13 @@ fn labels_of(
     i: u32,
     k: u32,
     entries: &[u32],
-) -> Result<Names, AllocError>
+) -> Result<Names, NoMemory>
     ensures { IfOk result (λ names. names ≡ spec.labels_of size i k entries.now) }
 {
     let mut labels = Vec::new(alloc);
     labels.push(code_label(alloc, i)?)?;
     add_unit_label(alloc, &mut labels, begins(entries, i), k)?;
-    add_fixed_label(alloc, &mut labels, i == APPLY_PLACE, b"apply")?;
+    add_fixed_label(alloc, &mut labels, i == APPLY, b"apply")?;
     add_fixed_label(alloc, &mut labels, i as usize + 1 == size, b"boot")?;
     Ok(Names::from_vec(labels))
 }
@@ -185,7 +183,7 @@ fn add_code_items(
     items: &mut Vec<Item>,
     code: &[Instruction],
     entries: &[u32],
-) -> Result<(), AllocError>
+) -> Result<(), NoMemory>
     requires few { length code.now < 2 ^ 32 }
     requires operations { All (λ x. x.operation < 2 ^ 30) code.now }
     ensures { OnOk result (items.new.items ≡ items.old.items ++ spec.code_items (length code.now) (reverse code.now) 0 entries.now) }
@@ -205,7 +203,7 @@ fn add_code_items(
     Ok(())
 }
 
-fn add_datum_items(alloc: Global, items: &mut Vec<Item>, cells: &[Datum]) -> Result<(), AllocError>
+fn add_datum_items(alloc: Global, items: &mut Vec<Item>, cells: &[Datum]) -> Result<(), NoMemory>
     requires { length cells.now < 2 ^ 32 }
     ensures { OnOk result (items.new.items ≡ items.old.items ++ spec.datum_items 0 cells.now) }
 {
@@ -219,7 +217,7 @@ fn add_datum_items(alloc: Global, items: &mut Vec<Item>, cells: &[Datum]) -> Res
     Ok(())
 }
 
-/// The module of what was emitted: instructions, data, and the numbers of the units' first instructions. Errors: `AllocError` where no
+/// The module of what was emitted: instructions, data, and the numbers of the units' first instructions. Errors: `NoMemory` where no
 /// memory can be had. What was emitted stays as it was.
 #[tactic(auto, using(crate::proofs::Modules::module_made))]
 pub fn module_of(
@@ -227,7 +225,7 @@ pub fn module_of(
     code: &[Instruction],
     cells: &[Datum],
     entries: &[u32],
-) -> Result<Module, AllocError>
+) -> Result<Module, NoMemory>
     requires { Made code.now cells.now entries.now }
     ensures { IfOk result (λ made. made ≡ spec.module_from code.now cells.now entries.now) }
 {

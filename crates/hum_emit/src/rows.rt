@@ -5,7 +5,7 @@ ghost use Rattle.hum_emit.specs.Shaping.{kind_of};
 ghost use Rattle.hum_emit.specs.Rowing.{IsTop, shape_at};
 
 use crate::shape::{Entry, Shape};
-use std::alloc::{AllocError, Global};
+use std::alloc::{AllocError as NoMemory, Global};
 use std::marker::Model;
 
 /// An entry, and the number of the one behind it. Entries have the numbers from 1 on, and behind the last there is 0.
@@ -43,7 +43,7 @@ impl<'a> Rows<'a> {
     }
 
     /// One entry more, in front of those from that one on; its number.
-    pub fn enter(&mut self, top: usize, entry: Entry<'a>) -> Result<usize, AllocError>
+    pub fn enter(&mut self, top: usize, entry: Entry<'a>) -> Result<usize, NoMemory>
         requires { top ≤ length self.old }
         ensures rows { OnOk result (self.new ≡ self.old ++ (kind_of entry.entry ∷ shape_at self.old top) ∷ []) }
         ensures top { IfOk result (λ at. IsTop self.new at (kind_of entry.entry ∷ shape_at self.old top)) }
@@ -53,7 +53,7 @@ impl<'a> Rows<'a> {
     }
 
     // The entries from that one on, the newest first.
-    fn from(&self, alloc: Global, top: usize) -> Result<Vec<Entry<'a>>, AllocError>
+    fn from(&self, alloc: Global, top: usize) -> Result<Vec<Entry<'a>>, NoMemory>
         ensures { IfOk result (λ entries. map kind_of entries.items ≡ shape_at self.now top) }
     {
         let mut entries = Vec::new(alloc);
@@ -70,7 +70,7 @@ impl<'a> Rows<'a> {
     }
 
     /// Makes the shape the one that begins with that entry.
-    pub fn copy(&self, alloc: Global, top: usize, shape: &mut Shape<'a>) -> Result<(), AllocError>
+    pub fn copy(&self, alloc: Global, top: usize, shape: &mut Shape<'a>) -> Result<(), NoMemory>
         ensures { OnOk result (shape.new ≡ shape_at self.now top) }
     {
         let entries = self.from(alloc, top)?;

@@ -12,7 +12,7 @@ use crate::emitter::{BLOCK_TYPE, Emitter, FUNCTION_TYPE};
 use crate::instruction::Field;
 use crate::shape::Entry;
 use hum_core::Slot;
-use std::alloc::AllocError;
+use std::alloc::AllocError as NoMemory;
 
 /// The entries of a statement's place, the oldest first, and so many bindings in front of them.
 #[derive(Clone, Copy)]
@@ -24,11 +24,11 @@ pub struct Scope<'s, 'a> {
 impl<'s, 'a> Scope<'s, 'a> {
     /// So many bindings more.
     #[tactic(auto, using(crate::proofs::Scopes::more_singles), unfolding(crate::specs::Shaping::shape_in))]
-    pub fn within(&self, count: usize) -> Result<Scope<'s, 'a>, AllocError>
+    pub fn within(&self, count: usize) -> Result<Scope<'s, 'a>, NoMemory>
         ensures { IfOk result (λ inner. shape_in inner ≡ with_singles count (shape_in self.now)) }
     {
         if count > usize::MAX - self.inner {
-            return Err(AllocError);
+            return Err(NoMemory);
         }
         Ok(Scope {
             entries: self.entries,
@@ -71,7 +71,7 @@ fn unit_of(units: &[u32], member: usize) -> u32
 }
 
 /// A function of that unit.
-pub fn function(out: &mut Emitter<'_>, unit: u32, k: u32) -> Result<u32, AllocError>
+pub fn function(out: &mut Emitter<'_>, unit: u32, k: u32) -> Result<u32, NoMemory>
     ensures { IfOk result (λ at. (emitted out.new, at) ≡ spec.function unit k (emitted out.old)) }
 {
     let k = out.quad(k)?;
@@ -80,7 +80,7 @@ pub fn function(out: &mut Emitter<'_>, unit: u32, k: u32) -> Result<u32, AllocEr
 }
 
 /// A block of that unit.
-pub fn block(out: &mut Emitter<'_>, unit: u32, k: u32) -> Result<u32, AllocError>
+pub fn block(out: &mut Emitter<'_>, unit: u32, k: u32) -> Result<u32, NoMemory>
     ensures { IfOk result (λ at. (emitted out.new, at) ≡ spec.block unit k (emitted out.old)) }
 {
     let k = out.quad(k)?;
@@ -94,7 +94,7 @@ pub fn variable(
     scope: &Scope<'_, '_>,
     slot: &Slot,
     k: u32,
-) -> Result<u32, AllocError>
+) -> Result<u32, NoMemory>
     ensures { IfOk result (λ at. (emitted out.new, at) ≡ spec.variable slot.now.back slot.now.member (shape_in scope.now) k (emitted out.old)) }
 {
     let back = slot.back as usize;

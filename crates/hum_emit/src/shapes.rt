@@ -11,7 +11,7 @@ use crate::exprs::bindings;
 use crate::rows::Rows;
 use crate::shape::{Entry, Shape};
 use hum_core::{Test, TestArm, TestBranch, TestExpr, TestStmt, TestUnit};
-use std::alloc::{AllocError, Global};
+use std::alloc::{AllocError as NoMemory, Global};
 
 // How many bindings there are outside all programs.
 const OUTERMOST: usize = 14;
@@ -31,7 +31,7 @@ struct Walk<'a> {
     found: Vec<usize>,
 }
 
-fn enter<'a>(walk: &mut Walk<'a>, top: usize, entry: Entry<'a>) -> Result<usize, AllocError>
+fn enter<'a>(walk: &mut Walk<'a>, top: usize, entry: Entry<'a>) -> Result<usize, NoMemory>
     requires { top ≤ length walk.old.rows }
     ensures found { OnOk result (Found [] walk.old walk.new) }
     ensures top { IfOk result (λ at. IsTop walk.new.rows at (kind_of entry.entry ∷ shape_at walk.old.rows top)) }
@@ -39,7 +39,7 @@ fn enter<'a>(walk: &mut Walk<'a>, top: usize, entry: Entry<'a>) -> Result<usize,
     walk.rows.enter(top, entry)
 }
 
-fn enter_singles(walk: &mut Walk<'_>, top: usize, count: usize) -> Result<usize, AllocError>
+fn enter_singles(walk: &mut Walk<'_>, top: usize, count: usize) -> Result<usize, NoMemory>
     requires { top ≤ length walk.old.rows }
     ensures found { OnOk result (Found [] walk.old walk.new) }
     ensures top { IfOk result (λ at. IsTop walk.new.rows at (with_singles count (shape_at walk.old.rows top))) }
@@ -52,7 +52,7 @@ fn enter_singles(walk: &mut Walk<'_>, top: usize, count: usize) -> Result<usize,
 }
 
 // A unit stands there.
-fn note(walk: &mut Walk<'_>, top: usize) -> Result<(), AllocError>
+fn note(walk: &mut Walk<'_>, top: usize) -> Result<(), NoMemory>
     requires { top ≤ length walk.old.rows }
     ensures { OnOk result (Found (shape_at walk.old.rows top ∷ []) walk.old walk.new) }
 {
@@ -61,7 +61,7 @@ fn note(walk: &mut Walk<'_>, top: usize) -> Result<(), AllocError>
 }
 
 #[cycle(walk)]
-fn expr(walk: &mut Walk<'_>, e: &TestExpr, top: usize) -> Result<(), AllocError>
+fn expr(walk: &mut Walk<'_>, e: &TestExpr, top: usize) -> Result<(), NoMemory>
     requires { top ≤ length walk.old.rows }
     ensures { OnOk result (Found (spec.in_expr e.now (shape_at walk.old.rows top)) walk.old walk.new) }
 {
@@ -90,7 +90,7 @@ fn expr(walk: &mut Walk<'_>, e: &TestExpr, top: usize) -> Result<(), AllocError>
 }
 
 #[cycle(walk)]
-fn exprs(walk: &mut Walk<'_>, items: &[TestExpr], top: usize) -> Result<(), AllocError>
+fn exprs(walk: &mut Walk<'_>, items: &[TestExpr], top: usize) -> Result<(), NoMemory>
     requires { top ≤ length walk.old.rows }
     ensures { OnOk result (Found (spec.in_all (map spec.in_expr items.now) (shape_at walk.old.rows top)) walk.old walk.new) }
 {
@@ -101,7 +101,7 @@ fn exprs(walk: &mut Walk<'_>, items: &[TestExpr], top: usize) -> Result<(), Allo
 }
 
 #[cycle(walk)]
-fn arms(walk: &mut Walk<'_>, arms: &[TestArm], top: usize) -> Result<(), AllocError>
+fn arms(walk: &mut Walk<'_>, arms: &[TestArm], top: usize) -> Result<(), NoMemory>
     requires { top ≤ length walk.old.rows }
     ensures { OnOk result (Found (spec.in_all (map spec.in_arm arms.now) (shape_at walk.old.rows top)) walk.old walk.new) }
 {
@@ -112,7 +112,7 @@ fn arms(walk: &mut Walk<'_>, arms: &[TestArm], top: usize) -> Result<(), AllocEr
 }
 
 #[cycle(walk)]
-fn arm(walk: &mut Walk<'_>, arm: &TestArm, top: usize) -> Result<(), AllocError>
+fn arm(walk: &mut Walk<'_>, arm: &TestArm, top: usize) -> Result<(), NoMemory>
     requires { top ≤ length walk.old.rows }
     ensures { OnOk result (Found (spec.in_arm arm.now (shape_at walk.old.rows top)) walk.old walk.new) }
 {
@@ -122,7 +122,7 @@ fn arm(walk: &mut Walk<'_>, arm: &TestArm, top: usize) -> Result<(), AllocError>
 }
 
 #[cycle(walk)]
-fn branches(walk: &mut Walk<'_>, branches: &[TestBranch], top: usize) -> Result<(), AllocError>
+fn branches(walk: &mut Walk<'_>, branches: &[TestBranch], top: usize) -> Result<(), NoMemory>
     requires { top ≤ length walk.old.rows }
     ensures { OnOk result (Found (spec.in_all (map spec.in_branch branches.now) (shape_at walk.old.rows top)) walk.old walk.new) }
 {
@@ -133,7 +133,7 @@ fn branches(walk: &mut Walk<'_>, branches: &[TestBranch], top: usize) -> Result<
 }
 
 #[cycle(walk)]
-fn branch(walk: &mut Walk<'_>, branch: &TestBranch, top: usize) -> Result<(), AllocError>
+fn branch(walk: &mut Walk<'_>, branch: &TestBranch, top: usize) -> Result<(), NoMemory>
     requires { top ≤ length walk.old.rows }
     ensures { OnOk result (Found (spec.in_branch branch.now (shape_at walk.old.rows top)) walk.old walk.new) }
 {
@@ -142,7 +142,7 @@ fn branch(walk: &mut Walk<'_>, branch: &TestBranch, top: usize) -> Result<(), Al
 }
 
 #[cycle(walk)]
-fn tests(walk: &mut Walk<'_>, tests: &[Test], top: usize) -> Result<(), AllocError>
+fn tests(walk: &mut Walk<'_>, tests: &[Test], top: usize) -> Result<(), NoMemory>
     requires { top ≤ length walk.old.rows }
     ensures { OnOk result (Found (spec.in_tests tests.now (shape_at walk.old.rows top)) walk.old walk.new) }
 {
@@ -153,7 +153,7 @@ fn tests(walk: &mut Walk<'_>, tests: &[Test], top: usize) -> Result<(), AllocErr
 }
 
 #[cycle(walk)]
-fn test(walk: &mut Walk<'_>, test: &Test, top: usize) -> Result<(), AllocError>
+fn test(walk: &mut Walk<'_>, test: &Test, top: usize) -> Result<(), NoMemory>
     requires { top ≤ length walk.old.rows }
     ensures { OnOk result (Found ((spec.of_one_test test.now).inside (shape_at walk.old.rows top)) walk.old walk.new) }
 {
@@ -171,7 +171,7 @@ fn statement<'a>(
     walk: &mut Walk<'a>,
     statement: &'a TestStmt,
     top: usize,
-) -> Result<usize, AllocError>
+) -> Result<usize, NoMemory>
     requires { top ≤ length walk.old.rows }
     ensures found { OnOk result (Found (spec.in_statement statement.now (shape_at walk.old.rows top)) walk.old walk.new) }
     ensures top { IfOk result (λ at. IsTop walk.new.rows at (spec.behind_statement statement.now (shape_at walk.old.rows top))) }
@@ -219,7 +219,7 @@ fn statements<'a>(
     walk: &mut Walk<'a>,
     statements: &'a [TestStmt],
     top: usize,
-) -> Result<(), AllocError>
+) -> Result<(), NoMemory>
     requires { top ≤ length walk.old.rows }
     ensures { OnOk result (Found (spec.in_statements statements.now (shape_at walk.old.rows top)) walk.old walk.new) }
 {
@@ -230,7 +230,7 @@ fn statements<'a>(
     Ok(())
 }
 
-fn unit<'a>(walk: &mut Walk<'a>, unit: &'a TestUnit, top: usize) -> Result<(), AllocError>
+fn unit<'a>(walk: &mut Walk<'a>, unit: &'a TestUnit, top: usize) -> Result<(), NoMemory>
     requires { top ≤ length walk.old.rows }
     ensures { OnOk result (Found (spec.in_unit unit.now (shape_at walk.old.rows top)) walk.old walk.new) }
 {
@@ -256,7 +256,7 @@ fn next(waiting: &mut Vec<usize>) -> usize
 }
 
 // Those that were found come next, the first one first.
-fn wait(waiting: &mut Vec<usize>, found: &[usize]) -> Result<(), AllocError>
+fn wait(waiting: &mut Vec<usize>, found: &[usize]) -> Result<(), NoMemory>
     ensures { OnOk result (waiting.new.items ≡ waiting.old.items ++ reverse found.now) }
 {
     let count = found.len();
@@ -267,7 +267,7 @@ fn wait(waiting: &mut Vec<usize>, found: &[usize]) -> Result<(), AllocError>
 }
 
 /// The shape of each unit's place, in one walk: the units in a unit have the numbers behind it, in the order in which they stand there.
-pub fn shapes_of<'a>(alloc: Global, units: &'a [TestUnit]) -> Result<Shapes<'a>, AllocError>
+pub fn shapes_of<'a>(alloc: Global, units: &'a [TestUnit]) -> Result<Shapes<'a>, NoMemory>
     ensures { IfOk result (λ shapes. map (shape_at shapes.rows) shapes.tops.items ≡ spec.shapes_of units.now) }
 {
     let mut walk = Walk {
@@ -292,7 +292,7 @@ pub fn shapes_of<'a>(alloc: Global, units: &'a [TestUnit]) -> Result<Shapes<'a>,
 
 impl<'a> Shapes<'a> {
     /// Makes the shape that of a unit.
-    pub fn fill(&self, alloc: Global, unit: usize, shape: &mut Shape<'a>) -> Result<(), AllocError>
+    pub fn fill(&self, alloc: Global, unit: usize, shape: &mut Shape<'a>) -> Result<(), NoMemory>
         requires { unit < length self.now.tops.items }
         ensures { OnOk result (shape.new ≡ slice_index_or (map (shape_at self.now.rows) self.now.tops.items) unit []) }
     {

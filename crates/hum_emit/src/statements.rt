@@ -5,7 +5,7 @@ ghost use Rattle.hum_code.specs.Layout.{Shape};
 ghost use Rattle.hum_emit.specs.Templates as spec;
 ghost use Rattle.hum_emit.specs.Emitted.{◌▷◌};
 ghost use Rattle.hum_emit.specs.Emitted as piece;
-ghost use Rattle.hum_emit.specs.Emitting.{emitted, function_code};
+ghost use Rattle.hum_emit.specs.Emitting.{emitted};
 ghost use Rattle.hum_emit.specs.Shaping.{shape_in};
 
 use crate::emitter::{ACTOR_TYPE, Emitter, UNDEF};
@@ -15,7 +15,7 @@ use crate::routines::{APPLY, EXEC, NO_ACTOR, THROWN};
 use crate::scope::Scope;
 use crate::shape::{Entry, Shape};
 use hum_core::{Test, TestExpr, TestStmt, TestUnit};
-use std::alloc::AllocError;
+use std::alloc::AllocError as NoMemory;
 
 // A value, above the environment that it is made in: from `S env` to `S env value`.
 fn beside<'a>(
@@ -23,7 +23,7 @@ fn beside<'a>(
     scope: &Scope<'_, 'a>,
     e: &'a TestExpr,
     k: u32,
-) -> Result<u32, AllocError>
+) -> Result<u32, NoMemory>
     ensures { IfOk result (λ at. (emitted out.new, at) ≡ (piece.dup 1 ▷ spec.expr_code e.now (shape_in scope.now)) k (emitted out.old)) }
 {
     let k = expr(out, scope, e, k)?;
@@ -36,7 +36,7 @@ fn statement<'a>(
     scope: &Scope<'_, 'a>,
     s: &'a TestStmt,
     k: u32,
-) -> Result<u32, AllocError>
+) -> Result<u32, NoMemory>
     ensures { IfOk result (λ at. (emitted out.new, at) ≡ spec.statement s.now (shape_in scope.now) k (emitted out.old)) }
 {
     match s {
@@ -95,7 +95,7 @@ fn added(s: &TestStmt) -> usize
 }
 
 // Brings them to sight.
-fn extend<'a>(shape: &mut Shape<'a>, s: &'a TestStmt) -> Result<(), AllocError>
+fn extend<'a>(shape: &mut Shape<'a>, s: &'a TestStmt) -> Result<(), NoMemory>
     ensures { OnOk result (shape.new ≡ spec.shape_after s.now shape.old) }
 {
     match s {
@@ -115,7 +115,7 @@ fn statements<'a>(
     out: &mut Emitter<'a>,
     shape: &mut Shape<'a>,
     statements: &'a [TestStmt],
-) -> Result<u32, AllocError>
+) -> Result<u32, NoMemory>
     ensures { IfOk result (λ at. (k : ℕ) → (emitted out.new, at) ≡ spec.statements statements.now shape.old k (emitted out.old)) }
 {
     for each in statements {
@@ -138,8 +138,8 @@ fn function<'a>(
     scope: &Scope<'_, 'a>,
     pattern: &'a [Test],
     value: &'a TestExpr,
-) -> Result<u32, AllocError>
-    ensures { IfOk result (λ at. (k : ℕ) → (emitted out.new, at) ≡ function_code pattern.now value.now (shape_in scope.now) k (emitted out.old)) }
+) -> Result<u32, NoMemory>
+    ensures { IfOk result (λ at. (k : ℕ) → (emitted out.new, at) ≡ spec.function_code pattern.now value.now (shape_in scope.now) k (emitted out.old)) }
 {
     let k = out.jump()?;
     let k = out.roll(2, k)?;
@@ -153,7 +153,7 @@ pub fn unit<'a>(
     out: &mut Emitter<'a>,
     shape: &mut Shape<'a>,
     unit: &'a TestUnit,
-) -> Result<u32, AllocError>
+) -> Result<u32, NoMemory>
     ensures { IfOk result (λ at. (emitted out.new, at) ≡ spec.unit_code unit.now shape.old 0 (emitted out.old)) }
 {
     match unit {

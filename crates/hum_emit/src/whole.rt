@@ -9,7 +9,7 @@ ghost use Rattle.hum_emit.specs.Runtime.{routine_places};
 ghost use Rattle.hum_emit.specs.Shapes as shaped;
 ghost use Rattle.hum_emit.specs.Templates.{push_data, boot_code, units_code};
 
-use crate::emitter::Emitter;
+use crate::emitter::{Emitter, FUNCTION_TYPE, NIL};
 use crate::instruction::{Datum, Field, Instruction};
 use crate::module::module_of;
 use crate::routines::{END, ROUTINES, runtime};
@@ -17,7 +17,7 @@ use crate::shape::Shape;
 use crate::shapes::{Shapes, shapes_of};
 use crate::statements::unit;
 use hum_core::{Program, TestUnit};
-use std::alloc::{AllocError, Global};
+use std::alloc::{AllocError as NoMemory, Global};
 use uasm_read::Module;
 
 /// What is emitted of a program, and the numbers of its units' first instructions.
@@ -34,7 +34,7 @@ fn units<'a>(
     out: &mut Emitter<'a>,
     shapes: &Shapes<'a>,
     units: &'a [TestUnit],
-) -> Result<Vec<u32>, AllocError>
+) -> Result<Vec<u32>, NoMemory>
     requires { map (shape_at shapes.now.rows) shapes.now.tops.items ≡ shaped.shapes_of units.now }
     ensures { IfOk result (λ entries. (emitted out.new, entries.items) ≡ units_code units.now (shaped.shapes_of units.now) (emitted out.old)) }
 {
@@ -50,12 +50,12 @@ fn units<'a>(
 }
 
 // The cells of the built-in functions.
-fn routine_cells(out: &mut Emitter<'_>) -> Result<(), AllocError>
+fn routine_cells(out: &mut Emitter<'_>) -> Result<(), NoMemory>
     ensures { OnOk result (emitted out.new ≡ with_cells (spec.routine_cells 0 routine_places) (emitted out.old)) }
 {
     for i in 0..12 {
         out.datum(Datum {
-            kind: 14,
+            kind: FUNCTION_TYPE,
             first: Field::Place(ROUTINES[i]),
             second: Field::Number(i as i32),
         })?;
@@ -64,7 +64,7 @@ fn routine_cells(out: &mut Emitter<'_>) -> Result<(), AllocError>
 }
 
 // The cells of the built-in functions are put on the stack, the newest entry last.
-fn functions(out: &mut Emitter<'_>, k: u32) -> Result<u32, AllocError>
+fn functions(out: &mut Emitter<'_>, k: u32) -> Result<u32, NoMemory>
     ensures { IfOk result (λ at. (emitted out.new, at) ≡ push_data 0 12 k (emitted out.old)) }
 {
     let mut at = k;
@@ -75,14 +75,14 @@ fn functions(out: &mut Emitter<'_>, k: u32) -> Result<u32, AllocError>
 }
 
 // The code of the first event: the outermost environment is put on the stack, and unit 0 runs in it.
-fn boot(out: &mut Emitter<'_>, k: u32) -> Result<u32, AllocError>
+fn boot(out: &mut Emitter<'_>, k: u32) -> Result<u32, NoMemory>
     ensures { IfOk result (λ at. (emitted out.new, at) ≡ boot_code k (emitted out.old)) }
 {
     let k = out.pair(14, k)?;
     let k = out.state(2, k)?;
     let k = out.state(1, k)?;
     let k = functions(out, k)?;
-    let k = out.push(Field::Constant(1), k)?;
+    let k = out.push(NIL, k)?;
     out.push(Field::Place(END), k)
 }
 
@@ -96,7 +96,7 @@ fn first_of(entries: &[u32]) -> u32
 }
 
 // The emission of a program.
-fn emission_of(alloc: Global, program: &[TestUnit]) -> Result<Emission, AllocError>
+fn emission_of(alloc: Global, program: &[TestUnit]) -> Result<Emission, NoMemory>
     ensures { IfOk result (λ e. (e.code.items ≡ (compiled program.now).0.code) × (e.cells.items ≡ (compiled program.now).0.cells) × (e.entries.items ≡ (compiled program.now).1)) }
 {
     let mut out = Emitter::start(alloc, runtime(alloc)?);
@@ -113,18 +113,18 @@ fn emission_of(alloc: Global, program: &[TestUnit]) -> Result<Emission, AllocErr
 }
 
 // There is a number for each of so many.
-fn few(count: usize) -> Result<(), AllocError>
+fn few(count: usize) -> Result<(), NoMemory>
     ensures { OnOk result (count < 2 ^ 32) }
 {
     if count > u32::MAX as usize {
-        return Err(AllocError);
+        return Err(NoMemory);
     }
     Ok(())
 }
 
-/// The module of a program, whose code does what the program means: `compiled_code_means_the_program`. Only want of memory is an error, which
+/// The module of a program, whose image holds the program: `compiled_images_hold_their_programs`. Only want of memory is an error, which
 /// 2^32 instructions or data are too.
-pub fn emit(alloc: Global, program: &Program) -> Result<Module, AllocError>
+pub fn emit(alloc: Global, program: &Program) -> Result<Module, NoMemory>
     requires { shaped.ShapesFit program.now.units (shaped.shapes_of program.now.units) }
     ensures { IfOk result (λ made. made ≡ compiled_module program.now.units) }
 {

@@ -19,7 +19,7 @@ use Rattle.hum_core.specs.Openings.{opening}
 use Rattle.hum_code.specs.Layout.{Layout}
 use Rattle.hum_code.specs.Stands.{Stands}
 use Rattle.hum_code.specs.Opening.{Devices}
-use Rattle.hum_code.specs.Reaches.{unspent}
+use Rattle.instr_table.specs.Spent.{unspent}
 use Rattle.hum_sim.specs.Program.{IsProgram}
 use Rattle.hum_sim.specs.Standing.{StateStands}
 use Rattle.hum_sim.proofs.Lanes.{both_once}

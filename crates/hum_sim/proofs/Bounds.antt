@@ -15,7 +15,7 @@ use Rattle.hum_core.specs.TestLists.{Tests, tests_language}
 use Rattle.hum_core.specs.Bound.{Cost, cost_of, bound}
 use Rattle.hum_core.specs.Bound as bounds
 use Rattle.hum_code.specs.Layout.{Layout}
-use Rattle.hum_code.specs.Reaches.{Spent, spent_more}
+use Rattle.instr_table.specs.Spent.{Spent, spent_more}
 use Rattle.hum_code.specs.Ending.{DeliveryOutcome, sends_of, IsWithin}
 use Rattle.hum_sim.specs.Program.{IsProgram}
 use Rattle.hum_sim.specs.Spent.{Spending}

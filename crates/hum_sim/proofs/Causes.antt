@@ -24,7 +24,7 @@ use Rattle.hum_core.specs.Alike.{Each}
 use Rattle.hum_core.specs.Bound.{Cost, bound, HasBound, HaveBounds}
 use Rattle.hum_core.specs.TestLists.{Tests, tests_language}
 use Rattle.hum_code.specs.Layout.{Layout}
-use Rattle.hum_code.specs.Reaches.{Spent, spent_more}
+use Rattle.instr_table.specs.Spent.{Spent, spent_more}
 use Rattle.hum_sim.specs.Program.{IsProgram}
 use Rattle.hum_sim.specs.Spent.{Spending}
 use Rattle.hum_sim.specs.Standing.{MessageStands, StateStands}
@@ -50,7 +50,7 @@ module _ (lay : Layout) (rom_of : RomImage) (program : IsProgram rom_of lay) {gr
   -- at rest no message is pending
   pub rest_means : (pick : ℕ) → 1 ≤ s.lanes → (turn s pick).1 ≡ Rest → c.pending ≡ []
   rest_means pick some r =
-      let change = subst (λ (a : Answer). Changes s a (turn s pick).0) r (turns-change s pick) in
+      let change = subst (λ (a : Answer). Changes s pick a (turn s pick).0) r (turns-change s pick) in
       let running = runs_at_rest pick s.out_of refl r in
       by running change.1 s.messages c.pending refl refl h.messages (free change.1 change.2)
     where

@@ -26,7 +26,8 @@ use Rattle.hum_meaning.specs.Deliver.{Configuration, without, drop}
 use Rattle.hum_core.specs.Alike.{Each}
 use Rattle.hum_core.specs.TestLists.{Tests}
 use Rattle.hum_code.specs.Layout.{Layout}
-use Rattle.hum_code.specs.Reaches.{Spent, unspent, Reaches, dispatched}
+use Rattle.instr_table.specs.Spent.{Spent, unspent}
+use Rattle.hum_code.specs.Reaches.{Reaches, dispatched}
 use Rattle.hum_code.proofs.Standing.{longer_same, stands_later}
 use Rattle.hum_sim.specs.Program.{IsProgram}
 use Rattle.hum_sim.specs.Spent.{Spending, with_spent}

@@ -19,7 +19,7 @@ use Rattle.hum_core.specs.Openings.{opening}
 use Rattle.hum_core.specs.Units.{resolved}
 use Rattle.hum_core.specs.Lists.{tested}
 use Rattle.hum_core.proofs.Meant.{resolved_means, lowered_means}
-use Rattle.hum_code.specs.Reaches.{unspent}
+use Rattle.instr_table.specs.Spent.{unspent}
 use Rattle.hum_sim.specs.Spent.{after_spent}
 use Rattle.hum_sim.specs.Standing.{StateStands}
 use Rattle.hum_sim.specs.Complete.{Delivers, ComesToRest, FilesComplete}

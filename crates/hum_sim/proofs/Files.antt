@@ -36,7 +36,7 @@ use Rattle.hum_core.proofs.Agreed.{resolution_sound}
 use Rattle.hum_core.proofs.Lowered.{lowering_sound}
 use Rattle.hum_core.proofs.Bounded.{bounds_agree}
 use Rattle.hum_code.specs.Layout.{Layout}
-use Rattle.hum_code.specs.Reaches.{Spent}
+use Rattle.instr_table.specs.Spent.{Spent}
 use Rattle.hum_sim.specs.Legal.{IsInOrder, EntersLegally, FollowsLegally, SpentAs}
 use Rattle.hum_sim.specs.Program.{IsProgram}
 use Rattle.instr_table.specs.declared.charge.Quota.{Quota}
@@ -46,7 +46,7 @@ use Rattle.vm_turn.specs.State.{State}
 use Rattle.vm_turn.specs.Boot.{booted}
 use Rattle.vm_turn.specs.Run.{run}
 use Rattle.vm_turn.proofs.RunsSound.{run-sound}
-use Rattle.hum_code.specs.Reaches.{unspent}
+use Rattle.instr_table.specs.Spent.{unspent}
 use Rattle.hum_sim.specs.Spent.{Spending, after_spent}
 use Rattle.hum_sim.specs.Standing.{StateStands}
 use Rattle.hum_sim.specs.Causes.{MessagesOf, NoneFit, FinishedBounds, NeverShort, RanOutBecause}

@@ -27,7 +27,8 @@ use Rattle.hum_meaning.specs.Value.{Behaviour}
 use Rattle.hum_meaning.specs.Deliver.{Configuration}
 use Rattle.hum_core.specs.TestLists.{Tests}
 use Rattle.hum_code.specs.Layout.{Layout}
-use Rattle.hum_code.specs.Reaches.{Spent, spent_more, Reaches, stepped}
+use Rattle.instr_table.specs.Spent.{Spent, spent_more}
+use Rattle.hum_code.specs.Reaches.{Reaches, stepped}
 use Rattle.hum_code.proofs.Standing.{longer_same}
 use Rattle.hum_sim.specs.Program.{IsProgram}
 use Rattle.hum_sim.specs.Spent.{Spending, with_spent}

@@ -11,7 +11,8 @@ use Rattle.hum_meaning.specs.After.{message_of}
 use Rattle.hum_core.specs.TestLists.{Tests}
 use Rattle.hum_code.specs.Layout.{Layout}
 use Rattle.hum_code.specs.Opening.{Devices}
-use Rattle.hum_code.specs.Reaches.{Spent, Reaches, others}
+use Rattle.instr_table.specs.Spent.{Spent}
+use Rattle.hum_code.specs.Reaches.{Reaches, others}
 use Rattle.hum_code.proofs.Standing.{Longer, stands_later}
 use Rattle.hum_sim.specs.Spent.{Spending}
 use Rattle.hum_sim.specs.Standing.{first_to, Rests, AnswersStand, BehaviourStands, ActorStands, MessageStands, LaneStands}

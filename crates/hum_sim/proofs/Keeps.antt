@@ -33,7 +33,7 @@ use Rattle.hum_core.specs.TestLists.{Tests, tests_language}
 use Rattle.hum_core.specs.Bound.{Cost, bound}
 use Rattle.hum_code.specs.Layout.{Layout}
 use Rattle.hum_code.specs.Stands.{DataStand}
-use Rattle.hum_code.specs.Reaches.{Spent, unspent, spent_more}
+use Rattle.instr_table.specs.Spent.{Spent, unspent, spent_more}
 use Rattle.hum_sim.specs.Program.{IsProgram}
 use Rattle.hum_sim.specs.Journal.{EndsAs, IsOut}
 use Rattle.hum_sim.specs.Spent.{Spending, with_spent, charged_spent, step_spent, go_spent, unless_spent as unless_spent_by, turn_spent}

@@ -10,7 +10,7 @@ use Rattle.instr_table.specs.Lane.{Lane}
 use Rattle.instr_table.specs.Reach.{Every}
 use Rattle.vm_turn.specs.State.{root}
 use Rattle.vm_turn.proofs.Sums.{sum-removed, sum-set}
-use Rattle.hum_code.specs.Reaches.{Spent, unspent, spent_more}
+use Rattle.instr_table.specs.Spent.{Spent, unspent, spent_more}
 use Rattle.cap_words.specs.Words.{W}
 use Rattle.hum_sim.specs.Spent.{Spending, with_spent}
 use Rattle.hum_sim.specs.Standing.{RootAlone}

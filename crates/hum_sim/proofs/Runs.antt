@@ -32,7 +32,7 @@ use Rattle.hum_core.specs.Alike.{Each}
 use Rattle.hum_core.specs.Openings.{opening}
 use Rattle.hum_core.specs.TestLists.{Tests, tests_language}
 use Rattle.hum_code.specs.Layout.{Layout}
-use Rattle.hum_code.specs.Reaches.{Spent, unspent}
+use Rattle.instr_table.specs.Spent.{Spent, unspent}
 use Rattle.hum_sim.specs.Program.{IsProgram}
 use Rattle.hum_sim.specs.Spent.{Spending, turn_spent, after_spent}
 use Rattle.hum_sim.specs.Journal.{EntryAs, IsOut}

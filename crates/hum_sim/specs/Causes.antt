@@ -13,7 +13,7 @@ use Rattle.hum_meaning.specs.After.{Entry, message_of}
 use Rattle.instr_table.specs.Reach.{Every}
 use Rattle.hum_core.specs.Alike.{Each}
 use Rattle.hum_core.specs.Bound.{Cost, HasBound, HaveBounds, Fit}
-use Rattle.hum_code.specs.Reaches.{Spent}
+use Rattle.instr_table.specs.Spent.{Spent}
 use Rattle.vm_sponsor.specs.declared.amounts.Amounts.{Amounts}
 use Rattle.vm_sponsor.specs.Ledger.{of_kind}
 use Rattle.hum_sim.specs.Spent.{Spending}

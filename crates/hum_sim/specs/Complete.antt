@@ -24,7 +24,7 @@ use Rattle.hum_meaning.specs.Written.{humus}
 use Rattle.hum_meaning.specs.After as after
 use Rattle.hum_core.specs.Units.{resolved}
 use Rattle.hum_core.specs.Lists.{tested}
-use Rattle.hum_code.specs.Reaches.{unspent}
+use Rattle.instr_table.specs.Spent.{unspent}
 use Rattle.hum_sim.specs.Spent.{after_spent}
 use Rattle.hum_sim.specs.Written.{StandsForFile}
 use Rattle.hum_sim.specs.Program.{IsProgram}

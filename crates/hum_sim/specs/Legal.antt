@@ -5,7 +5,7 @@ use Rattle.hum_meaning.specs.Deliver.{Message, Configuration}
 use Rattle.hum_meaning.specs.Language.{Language}
 use Rattle.hum_meaning.specs.After.{Entry, Enters}
 use Rattle.hum_core.specs.Bound.{Cost, bound}
-use Rattle.hum_code.specs.Reaches.{Spent}
+use Rattle.instr_table.specs.Spent.{Spent}
 
 -- at most that much was spent
 pub record SpentWithin (n : Spent) (cost : Cost) : Type 0 where

@@ -6,7 +6,7 @@ use Rattle.instr_table.specs.Outcome.{Row}
 use Rattle.instr_table.specs.Lane.{Lane, lane_row}
 use Rattle.vm_turn.specs.State.{Message, State}
 use Rattle.vm_turn.specs.Turn.{dispatchable, turn}
-use Rattle.hum_code.specs.Reaches.{Spent, unspent, spent_more}
+use Rattle.instr_table.specs.Spent.{Spent, unspent, spent_more}
 
 -- by the number of the event's message
 abbrev pub Spending : Type 0

@@ -27,7 +27,7 @@ use Rattle.hum_core.specs.TestLists.{Tests}
 use Rattle.hum_core.specs.Units.{resolved}
 use Rattle.hum_core.specs.Lists.{tested}
 use Rattle.hum_code.specs.Layout.{Layout}
-use Rattle.hum_code.specs.Reaches.{unspent}
+use Rattle.instr_table.specs.Spent.{unspent}
 use Rattle.hum_sim.specs.Spent.{Spending, after_spent}
 use Rattle.hum_sim.specs.Journal.{EntryAs}
 use Rattle.hum_sim.specs.Standing.{StateStands}

@@ -20,7 +20,7 @@ use Rattle.hum_syntax.specs.Spells.{Kinds, kinds, IsStmts, IsStmt, IsExpr, IsIte
 use Rattle.hum_syntax.proofs.Folding as folds
 use Rattle.hum_syntax.proofs.Folding.{Steps}
 
-abbrev sized : Steps ℕ ℕ ℕ ℕ ℕ
+abbrev pub sized : Steps ℕ ℕ ℕ ℕ ℕ
 sized = record { expr = expr_size; pat = pat_size; stmt = stmt_size; an_arm = arm_size; a_branch = branch_size }
 
 weight_of_kinds-append : (us vs : Kinds) → weight_of_kinds (us ++ vs) ≡ weight_of_kinds us + weight_of_kinds vs
@@ -31,7 +31,7 @@ pub weight-kinds : (ts : List Placed) → weight ts ≡ weight_of_kinds (kinds_o
 weight-kinds [] = refl
 weight-kinds (t ∷ ts) = ap (λ n. weight_of t.kind + n) (weight-kinds ts)
 
-sum-cons : {X : Type 0} (f : X → ℕ) (x : X) (xs : List X) → sum (map f (x ∷ xs)) ≡ f x + sum (map f xs)
+pub sum-cons : {X : Type 0} (f : X → ℕ) (x : X) (xs : List X) → sum (map f (x ∷ xs)) ≡ f x + sum (map f xs)
 sum-cons f x xs = sum_by-cons (λ n. n) (f x) (map f xs)
 
 mutual

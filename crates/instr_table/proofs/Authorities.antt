@@ -28,7 +28,7 @@ use Rattle.instr_table.proofs.KnownWords.{row-hands}
 some_is : {A : Type 0} {x y : A} → Some x ≡ Some y → x ≡ y
 some_is h = cc
 
-every-get : {A : Type 0} (P : A → Type 0) (xs : List A) (n : ℕ) (x : A) → Every P xs → slice_get xs n ≡ Some x → P x
+pub every-get : {A : Type 0} (P : A → Type 0) (xs : List A) (n : ℕ) (x : A) → Every P xs → slice_get xs n ≡ Some x → P x
 every-get P [] n x e h = cc
 every-get P (y ∷ xs) zero x e h = subst P (some_is h) e.0
 every-get P (y ∷ xs) (suc n) x e h = every-get P xs n x e.1 h

@@ -10,3 +10,4 @@ pub mod KnownWords
 pub mod Authorities
 pub mod ShownWords
 pub mod Makings
+pub mod Plain

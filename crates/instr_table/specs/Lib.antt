@@ -16,3 +16,5 @@ pub mod Reach
 pub mod Laws
 pub mod Authority
 pub mod Making
+pub mod Plain
+pub mod Spent

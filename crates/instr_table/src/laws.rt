@@ -3,6 +3,7 @@
 ghost use Rattle.instr_table.specs.Laws.{ChargesAsListed, TakesWhatItCharges, AssignsToOwn, HandsOnWhatItHas, ShownStays, ChangesKeepShown};
 ghost use Rattle.instr_table.specs.Authority.{EachKeepsAuthority};
 ghost use Rattle.instr_table.specs.Making.{KeepsCodeOut, MakesWhatItNames};
+ghost use Rattle.instr_table.specs.Plain.{PlainRowsLeaveSponsors};
 
 /// Each row charges what `op_charge` says of its operation, where that says something.
 pub fn charges_as_listed()
@@ -51,4 +52,10 @@ pub fn makes_what_it_names()
 /// No instruction makes a RAM cell that spells an operation, on the stack or elsewhere: where none stood in RAM, none stands there after it.
 pub fn keeps_code_out_of_ram()
     ensures { KeepsCodeOut }
+{}
+
+/// An instruction that is none of the five on sponsors has no effect on sponsors: it makes none, grants nothing and takes nothing back, and
+/// starts and stops none. A message that it sends is under the sponsor that pays for its event, or under a word that names a sponsor.
+pub fn plain_rows_leave_sponsors()
+    ensures { PlainRowsLeaveSponsors }
 {}

@@ -1,5 +1,5 @@
 -- What a device writes, by the texts that are written.
-use Rattle.std.proofs.Common.{◌≡◌, ℕ, zero, suc, true, false, List, [], ◌∷◌, ◌++◌, Option, Some, None, is_some, option_map, refl, ap, ◌∙◌, arith}
+use Rattle.std.proofs.Common.{◌≡◌, ℕ, zero, suc, ◌<◌, true, false, List, [], ◌∷◌, ◌++◌, Option, Some, None, is_some, option_map, refl, ap, ◌∙◌, arith}
 use Rattle.std.specs.Option.{unwrap_or}
 use Rattle.std.specs.Prelude.{Result, Ok, Err, IsErr}
 use Rattle.hum_outside.specs.Outside.{appended, AppendsFront}
@@ -65,7 +65,8 @@ unfolding piece
 piece_printed zero s w e = refl
 piece_printed (suc n) s w e = absurd (omega arith)
 
-pub piece_said : (device : ℕ) (s : Seen) (w : W) → (device ≡ 0 → ⊥) → piece device s w ≡ said (tree s w)
+pub piece_said : (device : ℕ) (s : Seen) (w : W) → (device ≡ 0 → ⊥) → device < 2 → piece device s w ≡ said (tree s w)
 unfolding piece
-piece_said zero s w other = absurd (other refl)
-piece_said (suc n) s w other = refl
+piece_said zero s w other few = absurd (other refl)
+piece_said (suc zero) s w other few = refl
+piece_said (suc (suc n)) s w other few = absurd (omega (arith, few))

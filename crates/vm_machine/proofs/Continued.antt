@@ -15,13 +15,14 @@ use Rattle.vm_turn.specs.Run.{after, run, picks, pick_of, drawn, drawn_after, co
 use Rattle.vm_turn.specs.Changes.{Changes}
 use Rattle.vm_turn.proofs.Changed.{turns-change}
 use Rattle.vm_turn.proofs.RunsSound.{turns-end}
+use Rattle.vm_turn.proofs.Images.{turn-rom, turn-lanes}
 use Rattle.vm_turn.proofs.Runs.{after-append, picks-next, drawn-next}
 use Rattle.vm_machine.specs.declared.parts.Parts.{Parts}
 use Rattle.vm_machine.specs.View.{state_of, unwritten}
 use Rattle.vm_machine.specs.Turns.{Takes}
 use Rattle.vm_machine.specs.Whole.{Kept}
 use Rattle.vm_machine.specs.Machine.{drawn_run, image_of, Follows}
-use Rattle.vm_machine.proofs.Unwritten.{turn-unwritten, turn-rom, turn-lanes}
+use Rattle.vm_machine.proofs.Unwritten.{turn-unwritten}
 use Rattle.vm_machine.proofs.Instructed.{few-cycles}
 use Rattle.vm_machine.proofs.Beginning.{few-events}
 
@@ -96,7 +97,7 @@ follows-on p q boot seed d n next a before after e grant t done h = subst (Follo
         h.turns_are
 
 -- a turn that is not completed changes nothing
-resting : (s : State) (pick : ℕ) (o : Option Quota) (a : Answer) (t : State) → s.out_of ≡ o → unless_out o (not_rest a) ≡ false → a ≡ (turn s pick).1 → Changes s a t → t ≡ (turn s pick).0 → t ≡ s
+resting : (s : State) (pick : ℕ) (o : Option Quota) (a : Answer) (t : State) → s.out_of ≡ o → unless_out o (not_rest a) ≡ false → a ≡ (turn s pick).1 → Changes s pick a t → t ≡ (turn s pick).0 → t ≡ s
 resting s pick (Some kind) a t out idle e c f = f ∙ ap (λ (x : Option Quota). (unless_spent s pick x).0) out
 resting s pick None Dispatched t out idle e c f = cc
 resting s pick None Stepped t out idle e c f = cc

@@ -24,7 +24,7 @@ use Rattle.vm_turn.proofs.TurnCases.{turn-by}
 use Rattle.vm_turn.proofs.Places.{other-at, flight-numbers}
 use Rattle.vm_turn.proofs.Sponsors.{among-right}
 use Rattle.vm_turn.proofs.RunsSound.{run-sound}
-use Rattle.vm_turn.proofs.Bound.{run-good, turn-sound}
+use Rattle.vm_turn.proofs.Bound.{dispatchable-chosen, run-good, turn-sound}
 use Rattle.vm_turn.proofs.Taken.{every-get, reached-back}
 use Rattle.vm_turn.proofs.WordsKept.{turn-taken, run-taken, after-taken}
 use Rattle.vm_turn.proofs.FlightActors.{settled-own, turn-flight, after-flight, run-flight}
@@ -58,10 +58,11 @@ no-commit n k end d e = let b : is_commit end ≡ true = ap commits_in e in absu
 -- the turn that commits an event in flight
 pub commit-is : {grant : Amounts} (s : State) → Sound grant s → (pick place : ℕ) (l : Lane) → slice_get s.flight place ≡ Some l → (turn s pick).1 ≡ Finished (entry l.number Committed) → (sheet : List Account) × ((turn s pick).0 ≡ finish s place l sheet l.effects Committed)
 commit-is s ok pick place l at = turn-by s pick (λ t a. a ≡ Finished (entry l.number Committed) → (sheet : List Account) × (t ≡ finish s place l sheet l.effects Committed)) (record {
-  spent = λ kind e. absurd (cc);
-  rests = λ e. absurd (cc);
-  begins = λ m is c e. absurd (cc);
-  delivers = λ m end bytes c e. absurd (other-at m.number s.flight place l c.other at (sym (ap number_in e)));
+  spent = λ kind out e. absurd (cc);
+  rests = λ run waits none e. absurd (cc);
+  begins = λ m d e. absurd (cc);
+  writes = λ m device bytes d is e. absurd (other-at m.number s.flight place l (dispatchable-chosen s m d.first).other at (sym (ap number_in e)));
+  refuses = λ m device d is e. absurd (other-at m.number s.flight place l (dispatchable-chosen s m d.first).other at (sym (ap number_in e)));
   goes = λ k g there paid is e. absurd (cc);
   fails = λ k w there paid is e. absurd (no-commit k.number l.number (Failed w) refl e);
   commits = λ k there paid is e.
@@ -69,8 +70,8 @@ commit-is s ok pick place l at = turn-by s pick (λ t a. a ≡ Finished (entry l
       let same : k ≡ l = some_is (sym there ∙ (ap (λ (i : ℕ). slice_get s.flight i) p ∙ at)) in
       let sheet = spend s.sheet k.own.sponsor (lane_row s.store s.sheet k).charge in
       (sheet, ap (λ (i : ℕ). finish s i k sheet k.effects Committed) p ∙ ap (λ (x : Lane). finish s place x sheet x.effects Committed) same);
-  runs_out = λ k kind there e. absurd (no-commit k.number l.number (RanOut kind) refl e);
-  root_runs_out = λ k kind there e. absurd (cc);
+  runs_out = λ k kind there lacks other e. absurd (no-commit k.number l.number (RanOut kind) refl e);
+  root_runs_out = λ k kind there lacks same run e. absurd (cc);
 })
 
 -- ---- its actor's behaviour after that turn

@@ -1,17 +1,14 @@
 -- Every turn keeps that the actors of events in flight are busy with them, that what they created is not committed, and that what they sent
 -- stands in the store.
-use Rattle.std.proofs.Common.{◌≡◌, ◌⊎◌, inl, inr, ℕ, zero, suc, ◌%◌, Bool, true, false, List, [], ◌∷◌, ◌++◌, length, Option, Some, None, refl, sym, ap, subst, ◌∙◌, arith, if◌then◌else◌, append-nil, append_assoc, drop, nat_lt}
+use Rattle.std.proofs.Common.{◌≡◌, ◌⊎◌, inl, inr, ℕ, zero, suc, ◌%◌, Bool, true, false, List, [], ◌∷◌, ◌++◌, length, Option, Some, None, refl, sym, ap, subst, ◌∙◌, arith, if◌then◌else◌, append-nil, nat_lt}
 use Rattle.std.specs.Prelude.{slice_get, slice_set, remove, pos, ◌&&◌, not}
 use Rattle.std.specs.List.{sum_by}
-use Rattle.std.proofs.lemmas.Bool.{cases_eq}
 use Rattle.std.proofs.lemmas.List.{map-append}
 use Rattle.std.proofs.lemmas.List.Sums.{sum_by_push}
-use Rattle.std.proofs.lemmas.Option.{slice_get_within}
-use Rattle.cap_words.specs.Words.{W, Fix, Rom, Ram, Cap, same_word, undef}
-use Rattle.cap_words.specs.Store.{cap_place}
-use Rattle.cap_words.specs.Seen.{Seen, Slot, OpenSlot, ActorSlot, UnbornSlot, EventSlot, SponsorSlot, SpentSlot, slot_seen, altered, grown}
+use Rattle.cap_words.specs.Words.{W, Fix, Cap, same_word, undef}
+use Rattle.cap_words.specs.Seen.{Seen, Slot, ActorSlot, UnbornSlot, EventSlot, slot_seen}
 use Rattle.cap_words.specs.Frame.{Among}
-use Rattle.cap_words.proofs.Places.{get-left, get-seam, get-set_same, get-set_other}
+use Rattle.cap_words.proofs.Places.{get-seam}
 use Rattle.cap_words.proofs.Same.{word_same}
 use Rattle.quad_memory.specs.Image.{RomImage}
 use Rattle.instr_table.specs.declared.charge.Quota.{Quota}
@@ -24,15 +21,13 @@ use Rattle.instr_table.specs.Lane.{Item, Lane, begun, values, lane_row, gone, af
 use Rattle.instr_table.specs.Reach.{Every}
 use Rattle.instr_table.specs.Making.{MakesNamed, MadeWith}
 use Rattle.instr_table.proofs.GotWords.{every-append}
-use Rattle.instr_table.proofs.Authorities.{pushed-store}
 use Rattle.instr_table.proofs.Makings.{row_at-makes}
 use Rattle.vm_sponsor.specs.declared.amounts.Amounts.{Amounts}
-use Rattle.vm_effects.specs.Actors.{all_idle}
 use Rattle.vm_effects.specs.Gathered.{made_words, sent_words}
 use Rattle.vm_turn.specs.declared.journal.Outcome.{Outcome as End}
 use Rattle.vm_turn.specs.declared.journal.Outcome.TheVariants.{Committed, Failed, RanOut}
 use Rattle.vm_turn.specs.State.{Message, State}
-use Rattle.vm_turn.specs.Actors.{sent_at, is_idle_in, is_idle, behaviour_in, behaviour_at, remade, at_actor, refilled, with_content, busy, resting, settled}
+use Rattle.vm_turn.specs.Actors.{sent_at, is_idle, behaviour_in, behaviour_at, at_actor, with_content, busy, resting, settled}
 use Rattle.vm_turn.specs.Turn.{is_in_flight, first_to_go, dispatchable, signal_number, own_of, begin, finish, go_on, released, run_out, turn}
 use Rattle.vm_turn.specs.Boot.{booted}
 use Rattle.vm_turn.specs.Run.{after, run}
@@ -42,6 +37,7 @@ use Rattle.vm_turn.proofs.Numbers.{rest-other}
 use Rattle.vm_turn.proofs.Slots.{length-going, alike-busy, alike-settled}
 use Rattle.vm_turn.proofs.Events.{IsNext, Placed, placed-same, placed-named, times-among}
 use Rattle.vm_turn.proofs.Sponsors.{among-of}
+use Rattle.vm_turn.proofs.Actors.{actor-other, actor-same, IsSeen, idle-other, content-other, content-apart, going-slots, going-seen, idle-there}
 use Rattle.vm_turn.proofs.Bound.{turn-sound}
 use Rattle.vm_turn.proofs.RunsSound.{boot-sound}
 use Rattle.vm_turn.proofs.TurnCases.{EachKind, turn-by}
@@ -51,123 +47,13 @@ use Rattle.vm_turn.proofs.Rights.{at-removed, at-set, released-alike}
 
 -- ---- lists
 
-every-by : {A : Type 0} (P : A → Type 0) (xs : List A) → ((i : ℕ) (x : A) → slice_get xs i ≡ Some x → P x) → Every P xs
+pub every-by : {A : Type 0} (P : A → Type 0) (xs : List A) → ((i : ℕ) (x : A) → slice_get xs i ≡ Some x → P x) → Every P xs
 every-by P [] f = tt
 every-by P (x ∷ xs) f = (f zero x refl, every-by P xs (λ i y h. f (suc i) y h))
 
 every-sent : (P Q : Sent → Type 0) (ms : List Sent) → ((m : Sent) → Among m.event (sent_words ms) → P m → Q m) → Every P ms → Every Q ms
 every-sent P Q [] f e = tt
 every-sent P Q (m ∷ ms) f e = (f m (inl refl) e.0, every-sent P Q ms (λ k i p. f k (inr i) p) e.1)
-
--- ---- slots that a change leaves as they were
-
-actor-other : (s : Seen) (a : W) (change : W → W → Slot) (w : W) → (w ≡ a → ⊥) → slot_seen (at_actor s a change) w ≡ slot_seen s w
-actor-other s a change (Fix n) f = refl
-actor-other s a change (Rom n) f = refl
-actor-other s a change (Ram n) f = refl
-actor-other s (Fix k) change (Cap n) f = refl
-actor-other s (Rom k) change (Cap n) f = refl
-actor-other s (Ram k) change (Cap n) f = refl
-actor-other s (Cap k) change (Cap n) f = by (slice_get s.slots k)
-  where
-    by : (o : Option Slot) → slot_seen (remade o change (Cap k) s) (Cap n) ≡ slot_seen s (Cap n)
-    by None = refl
-    by (Some (OpenSlot q)) = refl
-    by (Some (ActorSlot code state mark)) = get-set_other s.slots k n (change code state) (λ e. f (ap Cap e))
-    by (Some UnbornSlot) = refl
-    by (Some (EventSlot x y m)) = refl
-    by (Some SponsorSlot) = refl
-    by (Some SpentSlot) = refl
-
-actor-same : (s : Seen) (a code state mark : W) (change : W → W → Slot) → slot_seen s a ≡ Some (ActorSlot code state mark) → slot_seen (at_actor s a change) a ≡ Some (change code state)
-actor-same s (Fix k) code state mark change h = cc
-actor-same s (Rom k) code state mark change h = cc
-actor-same s (Ram k) code state mark change h = cc
-actor-same s (Cap k) code state mark change h =
-    let e : at_actor s (Cap k) change ≡ altered s k (change code state) = ap (λ (o : Option Slot). remade o change (Cap k) s) h in
-    ap (λ (t : Seen). slot_seen t (Cap k)) e ∙ get-set_same s.slots k (change code state) (slice_get_within s.slots k (ActorSlot code state mark) h)
-
--- a word under which something is seen is opaque
-abbrev IsSeen : Seen → W → Type 0
-IsSeen s w = (x : Slot) × (slot_seen s w ≡ Some x)
-
-altered-other : (s : Seen) (v w : W) (x : Slot) → IsSeen s v → (w ≡ v → ⊥) → slot_seen (altered s (cap_place v) x) w ≡ slot_seen s w
-altered-other s (Fix k) w x h f = let e = h.1 in absurd cc
-altered-other s (Rom k) w x h f = let e = h.1 in absurd cc
-altered-other s (Ram k) w x h f = let e = h.1 in absurd cc
-altered-other s (Cap k) (Fix n) x h f = refl
-altered-other s (Cap k) (Rom n) x h f = refl
-altered-other s (Cap k) (Ram n) x h f = refl
-altered-other s (Cap k) (Cap n) x h f = get-set_other s.slots k n x (λ e. f (ap Cap e))
-
-seen-altered : (s : Seen) (v w : W) (x : Slot) → IsSeen s v → IsSeen s w → IsSeen (altered s (cap_place v) x) w
-seen-altered s v (Fix n) x h g = let e = g.1 in absurd cc
-seen-altered s v (Rom n) x h g = let e = g.1 in absurd cc
-seen-altered s v (Ram n) x h g = let e = g.1 in absurd cc
-seen-altered s v (Cap n) x h g = by (cases_eq n (cap_place v))
-  where
-    by : (n ≡ cap_place v) ⊎ (n ≡ cap_place v → ⊥) → IsSeen (altered s (cap_place v) x) (Cap n)
-    by (inl e) = (x, subst (λ (k : ℕ). slice_get (slice_set s.slots k x) n ≡ Some x) e (get-set_same s.slots n x (slice_get_within s.slots n g.0 g.1)))
-    by (inr f) = (g.0, get-set_other s.slots (cap_place v) n x f ∙ g.1)
-
-idle-other : (s : Seen) (ms : List Made) (w : W) → ((v : W) → Among v (made_words ms) → IsSeen s v) → (Among w (made_words ms) → ⊥) → slot_seen (all_idle s ms) w ≡ slot_seen s w
-idle-other s [] w seen f = refl
-idle-other s (m ∷ ms) w seen f =
-    let x = ActorSlot m.code m.state undef in
-    let t = altered s (cap_place m.actor) x in
-    let here = seen m.actor (inl refl) in
-    idle-other t ms w (λ v a. seen-altered s m.actor v x here (seen v (inr a))) (λ a. f (inr a)) ∙ altered-other s m.actor w x here (λ e. f (inl e))
-
-content-other : (s : Seen) (v content w : W) → ((a b m : W) → slot_seen s w ≡ Some (EventSlot a b m) → ⊥) → slot_seen (with_content s v content) w ≡ slot_seen s w
-content-other s (Fix k) content w f = refl
-content-other s (Rom k) content w f = refl
-content-other s (Ram k) content w f = refl
-content-other s (Cap k) content (Fix n) f = by (slice_get s.slots k)
-  where
-    by : (o : Option Slot) → slot_seen (refilled o (Cap k) content s) (Fix n) ≡ None
-    by o = refl
-content-other s (Cap k) content (Rom n) f = refl
-content-other s (Cap k) content (Ram n) f = refl
-content-other s (Cap k) content (Cap n) f = by (slice_get s.slots k) refl
-  where
-    by : (o : Option Slot) → slice_get s.slots k ≡ o → slot_seen (refilled o (Cap k) content s) (Cap n) ≡ slot_seen s (Cap n)
-    by None h = refl
-    by (Some (OpenSlot q)) h = refl
-    by (Some (ActorSlot code state mark)) h = refl
-    by (Some UnbornSlot) h = refl
-    by (Some (EventSlot a b m)) h = get-set_other s.slots k n (EventSlot a b content) (λ e. f a b m (ap (λ (i : ℕ). slice_get s.slots i) e ∙ h))
-    by (Some SponsorSlot) h = refl
-    by (Some SpentSlot) h = refl
-
-content-apart : (s : Seen) (v content w : W) → (w ≡ v → ⊥) → slot_seen (with_content s v content) w ≡ slot_seen s w
-content-apart s (Fix k) content w f = refl
-content-apart s (Rom k) content w f = refl
-content-apart s (Ram k) content w f = refl
-content-apart s (Cap k) content (Fix n) f = refl
-content-apart s (Cap k) content (Rom n) f = refl
-content-apart s (Cap k) content (Ram n) f = refl
-content-apart s (Cap k) content (Cap n) f = by (slice_get s.slots k)
-  where
-    by : (o : Option Slot) → slot_seen (refilled o (Cap k) content s) (Cap n) ≡ slot_seen s (Cap n)
-    by None = refl
-    by (Some (OpenSlot q)) = refl
-    by (Some (ActorSlot code state mark)) = refl
-    by (Some UnbornSlot) = refl
-    by (Some (EventSlot a b m)) = get-set_other s.slots k n (EventSlot a b content) (λ e. f (ap Cap e))
-    by (Some SponsorSlot) = refl
-    by (Some SpentSlot) = refl
-
--- an instruction takes quads alone
-going-slots : (s : Seen) (is : List Item) (g : Going) → (more : List Slot) × ((after_going s is g).0.slots ≡ s.slots ++ (g.made ++ more))
-going-slots s is g =
-    let p = pushed-store (grown s g.made, drop g.pops is) g.pushed in
-    (p.0, ap (λ (t : Seen). t.slots) p.1 ∙ append_assoc s.slots g.made p.0)
-
-going-seen : (s : Seen) (is : List Item) (g : Going) (w : W) (x : Slot) → slot_seen s w ≡ Some x → slot_seen (after_going s is g).0 w ≡ Some x
-going-seen s is g (Fix n) x h = cc
-going-seen s is g (Rom n) x h = cc
-going-seen s is g (Ram n) x h = cc
-going-seen s is g (Cap n) x h = let e = going-slots s is g in ap (λ (xs : List Slot). slice_get xs n) e.1 ∙ (get-left s.slots (g.made ++ e.0) n (slice_get_within s.slots n x h) ∙ h)
 
 -- ---- what an effect creates
 
@@ -257,17 +143,6 @@ dispatchable-idle s m h = by (nat_lt (length s.flight) s.lanes) h
     by : (b : Bool) → (if b then first_to_go s.store s.sheet s.flight s.messages else None) ≡ Some m → is_idle s.store (sent_at s.store m.event).target ≡ true
     by true g = first-idle s.store s.sheet s.flight s.messages m g
     by false g = cc
-
--- an idle actor is there, with no mark
-
-idle-there : (o : Option Slot) → is_idle_in o ≡ true → (code : W) × (state : W) × (o ≡ Some (ActorSlot code state undef))
-idle-there None h = cc
-idle-there (Some (OpenSlot q)) h = cc
-idle-there (Some (ActorSlot code state mark)) h = (code, state, ap (λ (w : W). Some (ActorSlot code state w)) (word_same mark undef h))
-idle-there (Some UnbornSlot) h = cc
-idle-there (Some (EventSlot a b m)) h = cc
-idle-there (Some SponsorSlot) h = cc
-idle-there (Some SpentSlot) h = cc
 
 -- ---- a turn
 
@@ -377,7 +252,7 @@ module _ {grant : Amounts} (s : State) (ok : Sound grant s) (h : FlightSound s) 
         let u = ends.unborn v (part v a) in
         (UnbornSlot, actor-other s.store l.own.actor (resting x.next) v (λ e. let b = ends.busy in let d : slot_seen s.store v ≡ slot_seen s.store l.own.actor = ap (λ (w : W). slot_seen s.store w) e in absurd cc) ∙ u)
 
-    settled-other : (w : W) → (w ≡ l.own.actor → ⊥) → (Among w (made_words x.created) → ⊥) → slot_seen after_it w ≡ slot_seen s.store w
+    pub settled-other : (w : W) → (w ≡ l.own.actor → ⊥) → (Among w (made_words x.created) → ⊥) → slot_seen after_it w ≡ slot_seen s.store w
     settled-other w f g = idle-other midway x.created w created-seen g ∙ actor-other s.store l.own.actor (resting x.next) w f
 
     -- another event in flight
@@ -508,15 +383,16 @@ module _ {grant : Amounts} (s : State) (ok : Sound grant s) (h : FlightSound s) 
 
   flight-each : (pick : ℕ) → EachKind s pick (λ t a. FlightSound t)
   flight-each pick = record {
-    spent = λ kind. h;
-    rests = h;
-    begins = λ m is c. begin-flight m is;
-    delivers = λ m end bytes c. record { stands = h.stands; created_once = h.created_once; created_taken = h.created_taken };
+    spent = λ kind out. h;
+    rests = λ run waits none. h;
+    begins = λ m d. begin-flight m d.first;
+    writes = λ m device bytes d e. record { stands = h.stands; created_once = h.created_once; created_taken = h.created_taken };
+    refuses = λ m device d e. record { stands = h.stands; created_once = h.created_once; created_taken = h.created_taken };
     goes = λ l g at paid is. go_on-flight (pick % length s.flight) l (spend s.sheet l.own.sponsor (lane_row s.store s.sheet l).charge) (item (values l.stack) 1) g at (subst (MakesNamed l.own.sponsor (item (values l.stack) 1) s.store) is (row_at-makes l.own (fetched s.store l.code) s.store s.sheet l.effects (values l.stack)));
     fails = λ l w at paid is. finish-flight (pick % length s.flight) l at no_effects (none-created l) (spend s.sheet l.own.sponsor (lane_row s.store s.sheet l).charge) (Failed w);
     commits = λ l at paid is. finish-flight (pick % length s.flight) l at l.effects (λ w c. c) (spend s.sheet l.own.sponsor (lane_row s.store s.sheet l).charge) Committed;
-    runs_out = λ l kind at. run_out-flight (pick % length s.flight) l kind at;
-    root_runs_out = λ l kind at. out-flight (run_out s (pick % length s.flight) l kind) kind (run_out-flight (pick % length s.flight) l kind at);
+    runs_out = λ l kind at lacks other. run_out-flight (pick % length s.flight) l kind at;
+    root_runs_out = λ l kind at lacks same run. out-flight (run_out s (pick % length s.flight) l kind) kind (run_out-flight (pick % length s.flight) l kind at);
   }
 
   pub turn-flight : (pick : ℕ) → FlightSound (turn s pick).0

@@ -16,6 +16,13 @@ pub mod Rights
 pub mod Changed
 pub mod Runs
 pub mod Started
+pub mod Actors
 pub mod FlightActors
 pub mod Commits
 pub mod Order
+pub mod Images
+pub mod Root
+pub mod Alone
+pub mod Rolls
+pub mod Charged
+pub mod Ended

@@ -20,7 +20,7 @@ use Rattle.vm_turn.specs.declared.journal.Outcome.TheVariants.{Committed, Failed
 use Rattle.vm_turn.specs.declared.journal.Turn.TheVariants.{Dispatched, Stepped}
 use Rattle.vm_turn.specs.State.{Message, State}
 use Rattle.vm_turn.specs.Actors.{sent_at}
-use Rattle.vm_turn.specs.Turn.{signal_number, dispatchable, without, own_of, begin, delivered, finish, go_on, released, run_out, turn, numbered_from}
+use Rattle.vm_turn.specs.Turn.{signal_number, dispatchable, without, own_of, begin, delivered, refused, finish, go_on, released, run_out, turn, numbered_from}
 use Rattle.vm_turn.specs.Run.{after, run}
 use Rattle.vm_turn.specs.Sound.{Sound, numbers, Other, Has}
 use Rattle.vm_turn.specs.Authority.{LaneTaken, WordsTaken, new_words, made_by, made_in, made_at, made_since, had, EventsKeepAuthority}
@@ -105,7 +105,7 @@ other-whole n [] i l at d h = tt
 other-whole n (k ∷ ls) zero l at d h = ((λ e. d (ap (λ (x : Lane). x.number) (sym (some_is at)) ∙ e)), h)
 other-whole n (k ∷ ls) (suc i) l at d h = (h.0, other-whole n ls i l at d h.1)
 
-has-of : (ms xs : List Message) (n : ℕ) → Has (ms ++ xs) n → Has ms n ⊎ Has xs n
+pub has-of : (ms xs : List Message) (n : ℕ) → Has (ms ++ xs) n → Has ms n ⊎ Has xs n
 has-of [] xs n h = inr h
 has-of (m ∷ ms) xs n (inl e) = inl (inl e)
 has-of (m ∷ ms) xs n (inr h) = by (has-of ms xs n h)
@@ -120,7 +120,7 @@ nat-differs m n h e = grind (arith, nat_tests)
 nat-same : (m n : ℕ) → m ≡ n → nat_eq m n ≡ true
 nat-same m n e = grind (arith, nat_tests)
 
-has-left : (ms : List Message) (n k : ℕ) → Has (without n ms) k → (n ≡ k → ⊥) × Has ms k
+pub has-left : (ms : List Message) (n k : ℕ) → Has (without n ms) k → (n ≡ k → ⊥) × Has ms k
 has-left [] n k h = absurd h
 has-left (m ∷ ms) n k h = by (nat_eq m.number n) refl (λ g. has-left ms n k g) h
   where
@@ -129,7 +129,7 @@ has-left (m ∷ ms) n k h = by (nat_eq m.number n) refl (λ g. has-left ms n k g
     by false e f (inl g) = ((λ d. nat-differs m.number n e (g ∙ sym d)), inl g)
     by false e f (inr g) = let r = f g in (r.0, inr r.1)
 
-numbered-above : (k : ℕ) (es : List Sent) (n : ℕ) → Has (numbered_from k es) n → k ≤ n
+pub numbered-above : (k : ℕ) (es : List Sent) (n : ℕ) → Has (numbered_from k es) n → k ≤ n
 numbered-above k [] n h = absurd h
 numbered-above k (e ∷ es) n (inl d) = omega (arith, d)
 numbered-above k (e ∷ es) n (inr h) = let u = numbered-above (suc k) es n h in omega (arith, u)
@@ -184,15 +184,16 @@ begin-reads s m x = alike-reads s.store _ (alike-busy s.store x.target m)
 -- each readable cell under a word that is taken was there before the turn
 pub turn-reads : (s : State) (pick : ℕ) → Reads s.store (turn s pick).0.store
 turn-reads s pick = turn-by s pick (λ t a. Reads s.store t.store) (record {
-  spent = λ kind w q k h. h;
-  rests = λ w q k h. h;
-  begins = λ m is c. begin-reads s m.number (sent_at s.store m.event);
-  delivers = λ m end bytes c w q k h. h;
+  spent = λ kind out w q k h. h;
+  rests = λ run waits none w q k h. h;
+  begins = λ m d. begin-reads s m.number (sent_at s.store m.event);
+  writes = λ m device bytes d e w q k h. h;
+  refuses = λ m device d e w q k h. h;
   goes = λ l g at paid is. going-reads s.store l.stack g;
   fails = λ l w at paid is. finish-reads s (pick % length s.flight) l (spend s.sheet l.own.sponsor (lane_row s.store s.sheet l).charge) no_effects (Failed w);
   commits = λ l at paid is. finish-reads s (pick % length s.flight) l (spend s.sheet l.own.sponsor (lane_row s.store s.sheet l).charge) l.effects Committed;
-  runs_out = λ l kind at. run_out-reads s _ l kind;
-  root_runs_out = λ l kind at. run_out-reads s _ l kind;
+  runs_out = λ l kind at lacks other. run_out-reads s _ l kind;
+  root_runs_out = λ l kind at lacks same run. run_out-reads s _ l kind;
 })
 
 -- ---- what an event gets at, turn by turn
@@ -262,15 +263,18 @@ module _ (P : W → Type 0) (number : ℕ) where
 
     turn-holds : (pick : ℕ) → Underway number s → Holds (made ++ made_at s number pick (turn s pick).1) (turn s pick).0 × Underway number (turn s pick).0
     turn-holds pick u = turn-by s pick (λ t a. Holds (made ++ made_at s number pick a) t × Underway number t) (record {
-      spent = λ kind. (same, u);
-      rests = (same, u);
-      begins = λ m is c. (holds-begin m (λ e. u.ended (subst (λ (n : ℕ). Other n (numbers s.flight)) e c.other) (subst (λ (n : ℕ). Has s.messages n) e c.has)), underway-begin number s u m.number (sent_at s.store m.event));
-      delivers = λ m end bytes c. (same, underway-delivered number s u m end bytes);
+      spent = λ kind out. (same, u);
+      rests = λ run waits none. (same, u);
+      begins = λ m d.
+          let c = dispatchable-chosen s m d.first in
+          (holds-begin m (λ e. u.ended (subst (λ (n : ℕ). Other n (numbers s.flight)) e c.other) (subst (λ (n : ℕ). Has s.messages n) e c.has)), underway-begin number s u m.number (sent_at s.store m.event));
+      writes = λ m device bytes d e. (same, underway-delivered number s u m Committed bytes);
+      refuses = λ m device d e. (same, underway-delivered number s u m refused []);
       goes = λ l g at paid is. (holds-go_on pick l g at is (paid_by l), underway-go_on number s u (pick % length s.flight) l (paid_by l) g at);
       fails = λ l w at paid is. (holds-finish (pick % length s.flight) l (paid_by l) no_effects (Failed w), underway-finish number s u (pick % length s.flight) l (paid_by l) no_effects (Failed w) at);
       commits = λ l at paid is. (holds-finish (pick % length s.flight) l (paid_by l) l.effects Committed, underway-finish number s u (pick % length s.flight) l (paid_by l) l.effects Committed at);
-      runs_out = λ l kind at. (holds-run_out (pick % length s.flight) l kind, over l kind at);
-      root_runs_out = λ l kind at. (holds-run_out (pick % length s.flight) l kind, let k = over l kind at in record { was_given = k.was_given; ended = k.ended });
+      runs_out = λ l kind at lacks other. (holds-run_out (pick % length s.flight) l kind, over l kind at);
+      root_runs_out = λ l kind at lacks root run. (holds-run_out (pick % length s.flight) l kind, let k = over l kind at in record { was_given = k.was_given; ended = k.ended });
     })
       where
         paid_by : Lane → List Account
@@ -295,15 +299,16 @@ module _ {grant : Amounts} (s : State) (ok : Sound grant s) (taken : WordsTaken 
   -- the turn that dispatches it
   dispatched-is : (pick : ℕ) → (turn s pick).1 ≡ Dispatched → (turn s pick).0 ≡ begin s m.number (sent_at s.store m.event)
   dispatched-is pick h = turn-by s pick (λ t a. a ≡ Dispatched → t ≡ begin s m.number (sent_at s.store m.event)) (record {
-    spent = λ kind e. absurd (cc);
-    rests = λ e. absurd (cc);
-    begins = λ k is c e. let same : k ≡ m = some_is (sym is ∙ chosen) in ap (λ (x : Message). begin s x.number (sent_at s.store x.event)) same;
-    delivers = λ k end bytes c e. absurd (cc);
+    spent = λ kind out e. absurd (cc);
+    rests = λ run waits none e. absurd (cc);
+    begins = λ k d e. let same : k ≡ m = some_is (sym d.first ∙ chosen) in ap (λ (x : Message). begin s x.number (sent_at s.store x.event)) same;
+    writes = λ k device bytes d is e. absurd (cc);
+    refuses = λ k device d is e. absurd (cc);
     goes = λ l g at paid is e. absurd (cc);
     fails = λ l w at paid is e. absurd (cc);
     commits = λ l at paid is e. absurd (cc);
-    runs_out = λ l kind at e. absurd (cc);
-    root_runs_out = λ l kind at e. absurd (cc);
+    runs_out = λ l kind at lacks other e. absurd (cc);
+    root_runs_out = λ l kind at lacks same run e. absurd (cc);
   }) h
 
   abbrev own : Own

@@ -51,15 +51,16 @@ module _ (s : State) (pick : ℕ) where
 
   turn-from : IsFrom (turn s pick).0 (turn s pick).1
   turn-from = turn-by s pick IsFrom (record {
-    spent = λ kind. there _;
-    rests = there _;
-    begins = λ m is c place lane at. from-begin m is place lane (at-end s.flight place (begun m.number (own_of s.store (sent_at s.store m.event))) lane at);
-    delivers = λ m end bytes c. there _;
+    spent = λ kind out. there _;
+    rests = λ run waits none. there _;
+    begins = λ m d place lane at. from-begin m d.first place lane (at-end s.flight place (begun m.number (own_of s.store (sent_at s.store m.event))) lane at);
+    writes = λ m device bytes d e. there _;
+    refuses = λ m device d e. there _;
     goes = λ l g at paid is place lane h. from-set _ (pick % length s.flight) l (gone s.store l g) at refl place lane (at-set s.flight (pick % length s.flight) place (gone s.store l g) lane h);
     fails = λ l w at paid is place lane h. from-removed _ (pick % length s.flight) place lane h;
     commits = λ l at paid is place lane h. from-removed _ (pick % length s.flight) place lane h;
-    runs_out = λ l kind at place lane h. from-removed _ (pick % length s.flight) place lane (subst (λ (ls : List Lane). slice_get ls place ≡ Some lane) (released-flight (prepared s.sheet l.own.sponsor) kind (ended l kind)) h);
-    root_runs_out = λ l kind at place lane h. from-removed _ (pick % length s.flight) place lane (subst (λ (ls : List Lane). slice_get ls place ≡ Some lane) (released-flight (prepared s.sheet l.own.sponsor) kind (ended l kind)) h);
+    runs_out = λ l kind at lacks other place lane h. from-removed _ (pick % length s.flight) place lane (subst (λ (ls : List Lane). slice_get ls place ≡ Some lane) (released-flight (prepared s.sheet l.own.sponsor) kind (ended l kind)) h);
+    root_runs_out = λ l kind at lacks same run place lane h. from-removed _ (pick % length s.flight) place lane (subst (λ (ls : List Lane). slice_get ls place ≡ Some lane) (released-flight (prepared s.sheet l.own.sponsor) kind (ended l kind)) h);
   })
 
 -- ---- a run

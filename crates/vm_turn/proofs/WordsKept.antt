@@ -90,15 +90,16 @@ out-taken u kind h = record { image = h.image; cells = h.cells; flight = h.fligh
 
 turn-each : (s : State) (pick : ℕ) → WordsTaken s → EachKind s pick (λ t a. WordsTaken t)
 turn-each s pick h = record {
-  spent = λ kind. h;
-  rests = h;
-  begins = λ m is c. begin-taken s h m;
-  delivers = λ m end bytes c. record { image = h.image; cells = h.cells; flight = h.flight };
+  spent = λ kind out. h;
+  rests = λ run waits none. h;
+  begins = λ m d. begin-taken s h m;
+  writes = λ m device bytes d e. record { image = h.image; cells = h.cells; flight = h.flight };
+  refuses = λ m device d e. record { image = h.image; cells = h.cells; flight = h.flight };
   goes = λ l g at paid is. go_on-taken s h _ l _ g at is;
   fails = λ l w at paid is. finish-taken s h _ l _ no_effects _ tt;
   commits = λ l at paid is. finish-taken s h _ l _ l.effects _ (record-taken s h l (every-get (LaneTaken (next_quad s.store)) s.flight _ l h.flight at));
-  runs_out = λ l kind at. released-taken _ (run_out-taken s h _ l kind) (prepared s.sheet l.own.sponsor) kind;
-  root_runs_out = λ l kind at. out-taken _ kind (released-taken _ (run_out-taken s h _ l kind) (prepared s.sheet l.own.sponsor) kind);
+  runs_out = λ l kind at lacks other. released-taken _ (run_out-taken s h _ l kind) (prepared s.sheet l.own.sponsor) kind;
+  root_runs_out = λ l kind at lacks same run. out-taken _ kind (released-taken _ (run_out-taken s h _ l kind) (prepared s.sheet l.own.sponsor) kind);
 }
 
 pub turn-taken : (s : State) (pick : ℕ) → WordsTaken s → WordsTaken (turn s pick).0

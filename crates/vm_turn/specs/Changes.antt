@@ -1,11 +1,11 @@
 -- What a turn may change, by its answer.
-use Rattle.std.specs.Prelude.{◌≡◌, ◌⊎◌, ℕ, pos, List, [], ◌∷◌, ◌++◌, remove, slice_get, slice_set, Option, Some, None}
+use Rattle.std.specs.Prelude.{◌≡◌, ◌⊎◌, ℕ, ◌%◌, pos, List, [], ◌∷◌, ◌++◌, length, remove, slice_get, Option, Some, None}
 use Rattle.cap_words.specs.Words.{Fix}
 use Rattle.cap_words.specs.Seen.{Slot, grown}
-use Rattle.instr_table.specs.declared.charge.Charge.{Charge}
 use Rattle.instr_table.specs.declared.charge.Quota.{Quota}
-use Rattle.instr_table.specs.Sheet.{Account, spend, stop, prepared}
-use Rattle.instr_table.specs.Lane.{Lane}
+use Rattle.instr_table.specs.Sheet.{Account, account, short, spend, stop, prepared}
+use Rattle.instr_table.specs.Outcome.{Going, Outcome, Goes, Faults, Commits, Row}
+use Rattle.instr_table.specs.Lane.{Lane, lane_row}
 use Rattle.vm_turn.specs.declared.journal.Entry.{Entry}
 use Rattle.vm_turn.specs.declared.journal.Outcome.{Outcome as End}
 use Rattle.vm_turn.specs.declared.journal.Outcome.TheVariants.{Committed, Failed, RanOut}
@@ -14,26 +14,46 @@ use Rattle.vm_turn.specs.declared.journal.Turn.TheVariants.{Dispatched, Stepped,
 use Rattle.vm_turn.specs.State.{Message, State, root}
 use Rattle.vm_turn.specs.Actors.{sent_at, at_actor, resting}
 use Rattle.vm_turn.specs.Piece.{piece}
-use Rattle.vm_turn.specs.Turn.{dispatchable, device_of, begin, delivered, entry, without, finish, released, turn}
+use Rattle.vm_turn.specs.Turn.{dispatchable, device_of, begin, delivered, entry, without, finish, go_on, released, turn}
 
--- an event in flight of the message with that number
-pub record InFlight (s : State) (number : ℕ) : Type 0 where
-  pub place : ℕ
-  pub lane : Lane
-  pub there : slice_get s.flight place ≡ Some lane
-  pub number_is : lane.number ≡ number
+-- ---- an instruction
 
--- an instruction goes on: quads are taken, and the event's own lane and the sheet are others; it stays the same event
-pub record GoesOn (s t : State) : Type 0 where
-  pub place : ℕ
+-- the event in flight that a pick chooses
+pub record Picked (s : State) (pick : ℕ) : Type 0 where
   pub lane : Lane
-  pub new : Lane
+  pub there : slice_get s.flight (pick % length s.flight) ≡ Some lane
+
+module _ {s : State} {pick : ℕ} (p : Picked s pick) where
+  -- its place among those in flight
+  abbrev pub place : ℕ
+  place = pick % length s.flight
+
+  -- the row of its next instruction, and the sheet after its sponsor paid for that
+  abbrev pub next_row : Row
+  next_row = lane_row s.store s.sheet p.lane
+
+  abbrev pub paid_sheet : List Account
+  paid_sheet = spend s.sheet p.lane.own.sponsor next_row.charge
+
+  -- what its sponsor holds too little of, if anything
+  abbrev pub short_of : Option Quota
+  short_of = short (account s.sheet p.lane.own.sponsor) next_row.charge
+
+  -- its sponsor can pay for its next instruction, which comes to that
+  abbrev pub ComesTo : Outcome → Type 0
+  ComesTo o = (short_of ≡ None) × (next_row.outcome ≡ o)
+
+-- An event goes on as the row of its next instruction says, which its sponsor paid for: its own lane is another, and the sheet; it stays the
+-- same event. Quads are taken, and nothing else changes in the store.
+pub record GoesOn (s : State) (pick : ℕ) (t : State) : Type 0 where
+  pub event : Picked s pick
+  pub going : Going
+  pub comes_to : ComesTo event (Goes going)
+  pub goes : t ≡ go_on s (place event) event.lane (paid_sheet event) going
   pub cells : List Slot
-  pub sheet : List Account
-  pub there : slice_get s.flight place ≡ Some lane
-  pub same_number : new.number ≡ lane.number
-  pub same_own : new.own ≡ lane.own
-  pub only : t ≡ record s { store = grown s.store cells; flight = slice_set s.flight place new; sheet = sheet }
+  pub takes : t.store ≡ grown s.store cells
+
+-- ---- ends
 
 -- an event ends without effect, over that sheet: its entry is added, its message and its lane are gone, and its actor is idle, with the
 -- code and state that it had; the roll, the output and the other messages are as they were
@@ -59,31 +79,34 @@ pub record Delivery (s : State) (number : ℕ) (bytes : Option (List ℕ)) : Typ
   pub device_is : device_of (sent_at s.store message.event).target ≡ Some device
   pub bytes_are : piece device s.store (sent_at s.store message.event).content ≡ bytes
 
--- the message of an entry ends so: in an event in flight that was charged, or in a device, which writes its piece; an event that ran out was
--- not charged, and its sponsor is not the root
-abbrev pub Ends : State → Entry → End → State → Type 0
-Ends s e Committed t =
-    ((f : InFlight s e.message) × (c : Charge) × (t ≡ finish s f.place f.lane (spend s.sheet f.lane.own.sponsor c) f.lane.effects Committed))
+-- The message of an entry ends so. The event in flight that the pick chose took its next instruction, which commits, or which faults with that
+-- reason, and was charged for it; or it ran out, since its sponsor, which is not the root, was short of that kind for its next instruction, and
+-- was not charged. Or a device ended it, which writes its piece.
+abbrev pub Ends : State → ℕ → Entry → End → State → Type 0
+Ends s pick e Committed t =
+    ((p : Picked s pick) × (p.lane.number ≡ e.message) × ComesTo p Commits × (t ≡ finish s (place p) p.lane (paid_sheet p) p.lane.effects Committed))
     ⊎ ((bytes : List ℕ) × Delivery s e.message (Some bytes) × (t ≡ delivered s e.message Committed bytes))
-Ends s e (Failed w) t =
-    ((f : InFlight s e.message) × (c : Charge) × (t ≡ dropped s f.place f.lane (spend s.sheet f.lane.own.sponsor c) (Failed w)))
+Ends s pick e (Failed w) t =
+    ((p : Picked s pick) × (p.lane.number ≡ e.message) × ComesTo p (Faults w) × (t ≡ dropped s (place p) p.lane (paid_sheet p) (Failed w)))
     ⊎ (Delivery s e.message None × (w ≡ Fix (pos 8)) × (t ≡ delivered s e.message (Failed w) []))
-Ends s e (RanOut kind) t = (f : InFlight s e.message) × (f.lane.own.sponsor ≡ root → ⊥) × (t ≡ exhausted s f.place f.lane kind)
+Ends s pick e (RanOut kind) t =
+    (p : Picked s pick) × (p.lane.number ≡ e.message) × (short_of p ≡ Some kind) × (p.lane.own.sponsor ≡ root → ⊥) × (t ≡ exhausted s (place p) p.lane kind)
 
--- the root ran out of that kind before, and nothing changes; or it does so now, under an event of its own, which ends the run
-abbrev pub RunsOut : State → Quota → State → Type 0
-RunsOut s kind t =
+-- the root ran out of that kind before, and nothing changes; or it is short of it now, for the next instruction of an event of its own, which
+-- ends the run
+abbrev pub RunsOut : State → ℕ → Quota → State → Type 0
+RunsOut s pick kind t =
     ((s.out_of ≡ Some kind) × (t ≡ s))
-    ⊎ ((s.out_of ≡ None) × (number : ℕ) × (f : InFlight s number) × (f.lane.own.sponsor ≡ root) × (t ≡ record (exhausted s f.place f.lane kind) { out_of = Some kind }))
+    ⊎ ((s.out_of ≡ None) × (p : Picked s pick) × (short_of p ≡ Some kind) × (p.lane.own.sponsor ≡ root) × (t ≡ record (exhausted s (place p) p.lane kind) { out_of = Some kind }))
 
 -- what follows with that answer
-abbrev pub Changes : State → Answer → State → Type 0
-Changes s Dispatched t = (m : Message) × (dispatchable s ≡ Some m) × (device_of (sent_at s.store m.event).target ≡ None) × (t ≡ begin s m.number (sent_at s.store m.event))
-Changes s Stepped t = GoesOn s t
-Changes s (Finished e) t = Ends s e e.outcome t
-Changes s Rest t = (t ≡ s) × (s.flight ≡ []) × (dispatchable s ≡ None)
-Changes s (Spent sponsor kind) t = (sponsor ≡ root) × RunsOut s kind t
+abbrev pub Changes : State → ℕ → Answer → State → Type 0
+Changes s pick Dispatched t = (m : Message) × (dispatchable s ≡ Some m) × (device_of (sent_at s.store m.event).target ≡ None) × (t ≡ begin s m.number (sent_at s.store m.event))
+Changes s pick Stepped t = GoesOn s pick t
+Changes s pick (Finished e) t = Ends s pick e e.outcome t
+Changes s pick Rest t = (t ≡ s) × (s.flight ≡ []) × (dispatchable s ≡ None)
+Changes s pick (Spent sponsor kind) t = (sponsor ≡ root) × RunsOut s pick kind t
 
 -- each turn changes no more than its answer tells
 abbrev pub TurnsChange : Type 0
-TurnsChange = (s : State) (pick : ℕ) → Changes s (turn s pick).1 (turn s pick).0
+TurnsChange = (s : State) (pick : ℕ) → Changes s pick (turn s pick).1 (turn s pick).0

@@ -5,6 +5,10 @@ pub mod Piece
 pub mod Turn
 pub mod Run
 pub mod Sound
+pub mod Spending
 pub mod Laws
 pub mod Changes
 pub mod Authority
+pub mod Image
+pub mod Alone
+pub mod Roll

@@ -131,7 +131,8 @@ abbrev pub said : Option Tree → Option (List ℕ)
 said None = None
 said (Some t) = option_map line (speech t)
 
--- the bytes that a device writes for a word, or none where it refuses: device 0 is `println`, and 1 is `say`
+-- the bytes that a device writes for a word, or none where it refuses: device 0 is `println`, and 1 is `say`; there is no other device
 unfoldable pub piece : ℕ → Seen → W → Option (List ℕ)
 piece zero s w = printed s (tree s w)
-piece (suc n) s w = said (tree s w)
+piece (suc zero) s w = said (tree s w)
+piece (suc (suc n)) s w = None

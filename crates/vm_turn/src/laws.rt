@@ -2,6 +2,10 @@
 
 ghost use Rattle.vm_turn.specs.Laws.{TurnsEnd, AccountsAddUp, GrantsAreConserved, EventsStandOnce, LeastGoesFirst, OthersWait};
 ghost use Rattle.vm_turn.specs.Changes.{TurnsChange};
+ghost use Rattle.vm_turn.specs.Image.{ImagesStay, CodeStaysInImages, FlightsFitLanes};
+ghost use Rattle.vm_turn.specs.Alone.{RootStaysAlone};
+ghost use Rattle.vm_turn.specs.Roll.{RollsStand, EndedActorsRest};
+ghost use Rattle.vm_turn.specs.Spending.{EventsSpendWhatIsPaid};
 ghost use Rattle.vm_turn.specs.Authority.{EventsHaveBegun, EventsKeepAuthority, CommitsKeepAuthority};
 
 /// A machine with C cycles and E events completes at most `C + 2 (E + 1)` turns, whatever its image, its lanes and its picks: each
@@ -38,12 +42,13 @@ pub fn others_wait()
     ensures { OthersWait }
 {}
 
-/// What a turn changes is told by its answer. An event begins where a lane is free, with the first message that can go. An instruction that
-/// goes on changes its own lane, new quads and the sheet. An event that fails or runs out adds its entry, ends its message and makes its
-/// actor idle with the behaviour that it had: no other behaviour, and no roll, output or other message changes. An event that runs out also
-/// stops its sponsor, whose prepared signal becomes a message. Bytes are written by a device alone, for the first message that can go, and
-/// they are its piece; one that it refuses fails with 8. At rest nothing is in flight and no message can be dispatched. The root's running
-/// out ends the run.
+/// What a turn changes is told by its answer. An event begins where a lane is free, with the first message that can go. Else the event that
+/// the pick chooses takes its next instruction, whose charge its sponsor can pay, and goes on, commits or fails as that row of the table says.
+/// One that goes on changes its own lane, new quads and the sheet. One that fails or runs out adds its entry, ends its message and makes its
+/// actor idle with the behaviour that it had: no other behaviour, and no roll, output or other message changes. One runs out where its sponsor
+/// is short of the charge that is due; it is not charged, and its sponsor is stopped, whose prepared signal becomes a message. Bytes are written
+/// by a device alone, for the first message that can go, and they are its piece; one that it refuses fails with 8. At rest nothing is in flight
+/// and no message can be dispatched. The root's running out ends the run.
 pub fn turns_change()
     ensures { TurnsChange }
 {}
@@ -64,4 +69,43 @@ pub fn events_keep_authority()
 /// it created with theirs, and the targets, contents and other sponsors of the messages that it sent.
 pub fn commits_keep_authority()
     ensures { CommitsKeepAuthority }
+{}
+
+/// After every run the cells of the image are as they were.
+pub fn images_stay()
+    ensures { ImagesStay }
+{}
+
+/// After every run no RAM cell spells an operation: what is fetched comes from the image.
+pub fn code_stays_in_images()
+    ensures { CodeStaysInImages }
+{}
+
+/// After every run there are as many lanes as at boot, and no more events in flight.
+pub fn flights_fit_lanes()
+    ensures { FlightsFitLanes }
+{}
+
+/// Where no cell of the image spells an operation on sponsors the root stays the only sponsor: after every run it alone has an account, it
+/// pays for each event in flight, each message that is not finished or that such an event sent is under it, and no signal is prepared.
+pub fn root_stays_alone()
+    ensures { RootStaysAlone }
+{}
+
+/// After every run the roll names each committed actor, and no other; it names none twice, and an actor that an event in flight created is not
+/// on it. An actor of it is idle where no event in flight has it, and else busy with that event, the only one that has it. No event in flight
+/// has a device.
+pub fn rolls_stand()
+    ensures { RollsStand }
+{}
+
+/// After a turn of a run that ends an event in flight, its actor is idle, and no event in flight has it.
+pub fn ended_actors_rest()
+    ensures { EndedActorsRest }
+{}
+
+/// What an event has spent is the sum of the charges of its turns: after every run all sponsors together have spent of each kind what the events
+/// that ended and those in flight have.
+pub fn events_spend_what_is_paid()
+    ensures { EventsSpendWhatIsPaid }
 {}

@@ -19,7 +19,8 @@ mod laws;
 
 pub use journal::{Entry, Outcome, Turn};
 pub use laws::{
-    accounts_add_up, commits_keep_authority, events_have_begun, events_keep_authority,
-    events_stand_once, grants_are_conserved, least_goes_first, others_wait, turns_change,
-    turns_end,
+    accounts_add_up, code_stays_in_images, commits_keep_authority, ended_actors_rest,
+    events_have_begun, events_keep_authority, events_spend_what_is_paid, events_stand_once,
+    flights_fit_lanes, grants_are_conserved, images_stay, least_goes_first, others_wait,
+    rolls_stand, root_stays_alone, turns_change, turns_end,
 };

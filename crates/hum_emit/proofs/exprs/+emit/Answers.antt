@@ -1,11 +1,12 @@
 use Rattle.std.proofs.Common.{ap, ◌∙◌, ◌+◌, ◌-◌, suc, pos, length, take, drop, map, arith}
+use Rattle.std.proofs.lemmas.Result.{IfOk-weaker}
 use Rattle.hum_code.specs.Layout.{with_singles}
 use Rattle.hum_emit.specs.Emitted.{Emitted, ◌▷◌, dup, roll}
 use Rattle.hum_emit.specs.Emitted as piece
 use Rattle.hum_emit.specs.Templates.{expr_code, test_code, after_all, restore}
 use Rattle.hum_emit.specs.Emitting.{emitted, arm_code}
 use Rattle.hum_emit.specs.Shaping.{shape_in}
-use Rattle.hum_emit.proofs.Turns.{after_it, item_turn, test_turn, bound_before, arm_turn, branch_turn, front_more, between_more, tuple_done, branches_done, arms_done, arm_made, where_ok}
+use Rattle.hum_emit.proofs.Turns.{after_it, item_turn, test_turn, bound_before, arm_turn, branch_turn, front_more, between_more, tuple_done, branches_done, arms_done, arm_made}
 use Rattle.hum_emit.proofs.exprs.+emit.Goals as goal
 
 pub tuple-loop-i-preserved : goal.tuple-loop-i-preserved
@@ -57,7 +58,7 @@ arms-loop-i-preserved t c =
 
 pub arms-returns-in_ok-at-in-len2-up-5 : goal.arms-returns-in_ok-at-in-len2-up-5
 arms-returns-in_ok-at-in-len2-up-5 t c =
-    where_ok c.first_begins.result (λ at made.
+    IfOk-weaker c.first_begins.result _ _ (λ at made.
     arms_done c.args.arms.now c.first-item.result c.last-item.result (shape_in c.args.scope.now) c.args.k (emitted c.args.out.now)
     (emitted c.arm-in-len2-up.new.out, c.in_ok-at-in-len2-up.at) (emitted c.last_begins.new.out, c.in_ok-at-in-len2-up-2.at)
     (emitted c.loop-i.out, c.loop-i.at) (emitted c.arm-in-len2-up-2.new.out, c.in_ok-at-in-len2-up-5.at) (emitted c.first_begins.new.out, at) c.loop-i.i
@@ -81,7 +82,7 @@ tests-loop-i-preserved t c =
 
 pub arm-returns : goal.arm-returns
 arm-returns t c =
-    where_ok c.tests.result (λ at made.
+    IfOk-weaker c.tests.result _ _ (λ at made.
     arm_made c.args.arm.now c.as_slice-pattern.result.now (shape_in c.args.scope.now) (shape_in c.in_ok-within.field-0) c.args.miss c.args.k (emitted c.args.out.now)
     (emitted c.expr.new.out, c.in_ok-k.k) (emitted c.matched.new.out, c.in_ok-k-2.k) (emitted c.tests.new.out, at)
     c.as_slice-pattern.ensures (c.in_ok-within.ensures ∙ ap (λ n. with_singles n (shape_in c.args.scope.now)) c.bindings.ensures.value)

@@ -1,8 +1,8 @@
 use Rattle.std.proofs.Common.{◌≡◌, ap, ◌∙◌, ◌++◌, map, take, append_assoc}
+use Rattle.std.proofs.lemmas.Result.{on_ok_weaker}
 use Rattle.hum_emit.specs.declared.routines.TheConstants.{CALL_CODE, EXEC_CODE, APPLY_CODE, SAME_CODE}
 use Rattle.hum_emit.specs.Rows.{row_of}
 use Rattle.hum_emit.specs.Runtime.{runtime}
-use Rattle.hum_emit.proofs.Turns.{when_ok}
 use Rattle.hum_emit.proofs.routines.shared.Goals as goal
 
 pub returns : goal.returns
@@ -16,5 +16,5 @@ returns c =
     = c.in_ok-add_rows-3.ensures ∙ ap (λ xs. xs ++ map row_of EXEC_CODE) second ∙ append_assoc old (take 18 runtime) (map row_of EXEC_CODE) in
     let fourth : c.add_rows-4.new.code.items ≡ old ++ take 29 runtime
     = c.in_ok-add_rows-4.ensures ∙ ap (λ xs. xs ++ map row_of APPLY_CODE) third ∙ append_assoc old (take 25 runtime) (map row_of APPLY_CODE) in
-    when_ok c.add_rows-5.result (λ made.
+    on_ok_weaker c.add_rows-5.result (λ made.
     made ∙ ap (λ xs. xs ++ map row_of SAME_CODE) fourth ∙ append_assoc old (take 29 runtime) (map row_of SAME_CODE)) c.add_rows-5.ensures

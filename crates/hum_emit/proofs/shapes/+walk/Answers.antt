@@ -1,8 +1,8 @@
 use Rattle.std.proofs.Common.{ap, ◌∙◌}
+use Rattle.std.proofs.lemmas.Result.{on_ok_weaker}
 use Rattle.hum_emit.specs.Shapes.{in_expr, in_arm, in_branch, of_one_test, OfTest}
 use Rattle.hum_emit.specs.Rowing.{shape_at}
 use Rattle.hum_emit.proofs.Nodes.{inside_constant, inside_text, inside_var, inside_myself, of_pair, of_constant, of_bind, of_skip}
-use Rattle.hum_emit.proofs.Findings.{when_ok}
 use Rattle.hum_emit.proofs.Parting.{nothing, none_in, loop_found, tests_loop, call_found, case_found, if_found, arm_found, branch_found}
 use Rattle.hum_emit.proofs.shapes.+walk.Goals as goal
 
@@ -28,19 +28,19 @@ expr-returns-in-Myself t c =
 
 pub expr-returns-in_ok-expr-in-Call : goal.expr-returns-in_ok-expr-in-Call
 expr-returns-in_ok-expr-in-Call t c =
-    when_ok c.expr-in-Call.result (λ made.
+    on_ok_weaker c.expr-in-Call.result (λ made.
     call_found c.args.e.now c.in-Call.callee c.in-Call.argument c.get.result.now c.get-in-Call.result.now c.args.walk.now c.expr.new.walk c.expr-in-Call.new.walk
     c.args.top c.in-Call.is c.get.ensures c.get-in-Call.ensures c.requires c.in_ok-expr-in-Call.ensures made) c.expr-in-Call.ensures
 
 pub expr-returns-in_ok-expr-in-Case : goal.expr-returns-in_ok-expr-in-Case
 expr-returns-in_ok-expr-in-Case t c =
-    when_ok c.arms.result (λ made.
+    on_ok_weaker c.arms.result (λ made.
     case_found c.args.e.now c.in-Case.subject c.get-in-Case.result.now c.in-Case.choices c.as_slice-in-Case.result.now c.args.walk.now c.expr-in-Case.new.walk c.arms.new.walk
     c.args.top c.in-Case.is c.get-in-Case.ensures c.as_slice-in-Case.ensures c.requires c.in_ok-expr-in-Case.ensures made) c.arms.ensures
 
 pub expr-returns-in_ok-branches-in-If : goal.expr-returns-in_ok-branches-in-If
 expr-returns-in_ok-branches-in-If t c =
-    when_ok c.note-in-If.result (λ made.
+    on_ok_weaker c.note-in-If.result (λ made.
     if_found c.args.e.now c.in-If.conditions c.as_slice-in-If.result.now c.in-If.field-1 c.args.walk.now c.branches.new.walk c.note-in-If.new.walk
     c.args.top c.in-If.is c.as_slice-in-If.ensures c.requires c.in_ok-branches-in-If.ensures made) c.note-in-If.ensures
 
@@ -78,14 +78,14 @@ tests-loop-each-preserved t c =
 
 pub arm-returns : goal.arm-returns
 arm-returns t c =
-    when_ok c.expr.result (λ made.
+    on_ok_weaker c.expr.result (λ made.
     arm_found c.args.arm.now c.as_slice.result.now c.as_slice-2.result.now c.bindings.result c.args.walk.now c.tests.new.walk c.enter_singles.new.walk c.expr.new.walk
     c.args.top c.in_ok-inner.inner c.as_slice.ensures c.as_slice-2.ensures c.bindings.ensures.value c.requires c.in_ok-tests.ensures
     c.in_ok-inner.ensures.found c.in_ok-inner.ensures.top made) c.expr.ensures
 
 pub branch-returns : goal.branch-returns
 branch-returns t c =
-    when_ok c.note.result (λ made.
+    on_ok_weaker c.note.result (λ made.
     branch_found c.args.branch.now c.args.walk.now c.expr.new.walk c.note.new.walk c.args.top c.requires c.in_ok-expr.ensures made) c.note.ensures
 
 pub test-returns-in-Pair : goal.test-returns-in-Pair
