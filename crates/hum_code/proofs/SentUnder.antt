@@ -1,9 +1,9 @@
 -- A message that an operation of programs sends is under the payer.
-use Rattle.std.proofs.Common.{◌≡◌, refl, ap, sym, subst, ◌∙◌, ℕ, pos, Bool, true, false, List, [], ◌∷◌, Option, Some, None}
+use Rattle.std.proofs.Common.{◌≡◌, refl, sym, subst, ℕ, pos, Bool, true, false, List, [], ◌∷◌, Option, Some, None}
 use Rattle.std.specs.Prelude.{if◌then◌else◌}
 use Rattle.std.specs.Ordering.{int_eq}
 use Rattle.cap_words.specs.declared.word.Quad.{Quad}
-use Rattle.cap_words.specs.Words.{W, Fix, Rom, Ram, Cap, same_word}
+use Rattle.cap_words.specs.Words.{W, same_word}
 use Rattle.cap_words.specs.Seen.{Seen}
 use Rattle.instr_table.specs.declared.op.Op.{Op}
 use Rattle.instr_table.specs.declared.op.Op.TheVariants.{Push, Dup, Drop, Pick, Roll, Depth, Pair, Part, Nth, QuadMake, QuadTake, Get, Typeq, Eq, Cmp, AluNot, Alu, If, Jump, Msg, State, My, ActorSend, ActorPost, ActorCreate, ActorAssign, ActorBecome, End, DictTest, DictPut, DictDel, DequeNew, DequeTest, DequePut, DequeTake, SponsorNew, SponsorGrant, SponsorReclaim, SponsorStart, SponsorStop, Assert, Debug}
@@ -12,7 +12,7 @@ use Rattle.instr_table.specs.Types.{is_actor, is_makeable, Grows}
 use Rattle.instr_table.specs.Lists.{item}
 use Rattle.instr_table.specs.Event.{Own, Sent, Behaviour, Effects, Effect, Nothing, Sends, Creates, Assigns, Becomes, Sponsors, Grants, Reclaims, Starts, Stops, with_effect}
 use Rattle.instr_table.specs.Sheet.{Account}
-use Rattle.instr_table.specs.Outcome.{Going, Outcome, Goes, Faults, Commits, Row}
+use Rattle.instr_table.specs.Outcome.{Going, Outcome, Goes, Row}
 use Rattle.instr_table.specs.Making.{NoCodeInRam}
 use Rattle.instr_table.specs.Row.{row, row_at}
 use Rattle.instr_table.specs.ActorRows.{become_row}

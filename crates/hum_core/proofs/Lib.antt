@@ -5,6 +5,7 @@ pub mod Simulates
 pub mod Wholly
 pub mod Looked
 pub mod Names
+pub mod NewestItems
 pub mod Patterns
 pub mod Agreed
 pub mod Splits

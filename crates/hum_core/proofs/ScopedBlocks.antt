@@ -39,10 +39,10 @@ functions_named [] n = refl
 functions_named (s ∷ ss) n = group_named (role written (out-Stmt s)) (made_stmt s).binds (role_as s) n _ _ (functions_named ss (n + (made_stmt s).part.size))
 
 -- what is found of a statement, with what it becomes saying what it binds
-abbrev judged_stmt : Stmt → judged.OfStmt
+abbrev pub judged_stmt : Stmt → judged.OfStmt
 judged_stmt s = record { binds = (made_stmt s).binds; at = (found_stmt s).at }
 
-judged_as_found : (ss : List Stmt) → map found_stmt ss ≡ map judged_stmt ss
+pub judged_as_found : (ss : List Stmt) → map found_stmt ss ≡ map judged_stmt ss
 judged_as_found [] = refl
 judged_as_found (s ∷ ss) =
     ap (λ b. record { binds = b; at = (found_stmt s).at } ∷ map found_stmt ss) (same_binds s)
@@ -62,21 +62,21 @@ one_among (Values names) n fs ks x h e = e
 one_among Nothing n fs ks x h e = h e
 
 -- the names of the functions ahead are among those of the group
-functions_among : (ss : List Stmt) (n : ℕ) (x : Name) → has (judged.functions (map judged_stmt ss)) x ≡ true
+pub functions_among : (ss : List Stmt) (n : ℕ) (x : Name) → has (judged.functions (map judged_stmt ss)) x ≡ true
     → has (group_names (functions n (map made_stmt ss))) x ≡ true
 functions_among [] n x e = e
 functions_among (s ∷ ss) n x e = one_among (made_stmt s).binds n _ _ x (functions_among ss (n + (made_stmt s).part.size) x) e
 
 -- ---- names that are seen, in the order in which they come to be taken
 
-taken_on : (scope : Scope) (fs names taken outer : Names) → Sees scope (fs ++ names ++ taken ++ outer)
+pub taken_on : (scope : Scope) (fs names taken outer : Names) → Sees scope (fs ++ names ++ taken ++ outer)
     → Sees scope (fs ++ (names ++ taken) ++ outer)
 taken_on scope fs names taken outer h = subst (λ ns. Sees scope (ns ++ outer)) (append_assoc fs names taken) h
 
-behind_taken : (scope : Scope) (names taken outer : Names) → Sees scope (names ++ (taken ++ outer)) → Sees scope (names ++ taken ++ outer)
+pub behind_taken : (scope : Scope) (names taken outer : Names) → Sees scope (names ++ (taken ++ outer)) → Sees scope (names ++ taken ++ outer)
 behind_taken scope names taken outer h = subst (Sees scope) (sym (append_assoc names taken outer)) h
 
-none_ahead : (grouped : Bool) (scope : Scope) (seen : Names) (outer : Names) → Sees scope ((if grouped then [] else []) ++ seen ++ outer)
+pub none_ahead : (grouped : Bool) (scope : Scope) (seen : Names) (outer : Names) → Sees scope ((if grouped then [] else []) ++ seen ++ outer)
     → Sees scope (seen ++ outer)
 none_ahead true scope seen outer h = h
 none_ahead false scope seen outer h = h

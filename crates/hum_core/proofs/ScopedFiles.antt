@@ -28,7 +28,7 @@ use Rattle.hum_core.proofs.ScopedBlocks.{rel, to, SS, block_stands}
 use Rattle.hum_core.proofs.ScopedTrees.{every_stmt}
 
 -- the built-in functions and the devices have slots
-outermost_seen : Sees (scope_of (outermost written)) outermost_scope
+pub outermost_seen : Sees (scope_of (outermost written)) outermost_scope
 outermost_seen = subst (Sees (with_marks outermost_scope [])) (append-nil outermost_scope) (marks_seen outermost_scope [] [] nothing_seen)
 
 -- the statements, with what is so of each

@@ -9,7 +9,7 @@ use Rattle.hum_core.specs.declared.tested.TestExpr.{TestExpr, out-TestExpr, fold
 use Rattle.hum_core.specs.declared.tested.Test.{Test, out-Test, fold_out-Test}
 use Rattle.hum_core.specs.declared.tested.TestArm.{TestArm, out-TestArm, fold_out-TestArm}
 use Rattle.hum_core.specs.declared.tested.TestBranch.{TestBranch, out-TestBranch, fold_out-TestBranch}
-use Rattle.hum_core.specs.declared.tested.Test.TheOpen.{Test-F, TestExpr-F, TestArm-F, TestBranch-F}
+use Rattle.hum_core.specs.declared.tested.Test.TheOpen.{TestExpr-F}
 use Rattle.hum_core.specs.declared.tested.Test.TheOpen as layer
 use Rattle.hum_core.specs.Numbered.{Of}
 use Rattle.hum_core.specs.Lowering.{TestNode, left_behind}

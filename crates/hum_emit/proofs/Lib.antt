@@ -16,7 +16,6 @@ pub mod ShapeTests
 pub mod Expressions
 pub mod MadeUnits
 pub mod Emitting
-pub mod Sights
 pub mod ShapeBlocks
 pub mod ShapePatterns
 pub mod ShapeTrees
@@ -40,5 +39,6 @@ pub mod Findings
 pub mod Parting
 pub mod UnitTurns
 pub mod Size
+pub mod SizeStart
 pub mod SizeTrees
 pub mod SizeUnits

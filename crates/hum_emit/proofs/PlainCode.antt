@@ -94,7 +94,7 @@ other_number k n excluded h = by (nat_eq k n) refl
   where
     by : (b : Bool) → nat_eq k n ≡ b → b ≡ false
     by true e = let same : is_others k ≡ is_others n = ap is_others (eqb-true k n e) in
-      absurd (let bad : true ≡ false = sym h ∙ (same ∙ excluded) in cc)
+        absurd (let bad : true ≡ false = sym h ∙ (same ∙ excluded) in cc)
     by false e = refl
 
 -- one with a number that is not 20

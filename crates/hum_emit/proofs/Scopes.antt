@@ -1,36 +1,12 @@
 -- The entries in sight of an expression, the newest first.
-use Rattle.std.proofs.Common.{◌≡◌, refl, sym, ap, ◌∙◌, arith, ℕ, zero, suc, ◌+◌, ◌-◌, ◌<◌, ◌≤◌, List, [], ◌∷◌, ◌++◌, map, length, reverse, take, drop, get_or, length-append, Option, Some, None}
+use Rattle.std.proofs.Common.{◌≡◌, refl, sym, ap, ◌∙◌, arith, ℕ, zero, suc, ◌+◌, ◌-◌, ◌<◌, ◌≤◌, List, [], ◌∷◌, map, length, reverse, get_or, Option, Some, None}
 use Rattle.std.specs.Prelude.{slice_get}
-use Rattle.std.proofs.lemmas.List.{length-take-le, take-map, reverse-append, length-reverse, take-append-drop, drop-append-le, drop_all, get_or-reverse, length-map}
+use Rattle.std.proofs.lemmas.List.{length-reverse, get_or-reverse, length-map}
 use Rattle.std.proofs.lemmas.Option.{slice_get-get_or}
 use Rattle.hum_code.specs.Layout.{Kind, Single, Several, Shape, with_singles}
 use Rattle.hum_emit.specs.declared.shape.Entry.{Entry}
 use Rattle.hum_emit.specs.Templates.{member_unit}
 use Rattle.hum_emit.specs.Shaping.{kind_of, unit_in}
-
--- ---- the oldest of them
-
-drop_front : {X : Type 0} (us vs : List X) → drop (length (us ++ vs) - length vs) (us ++ vs) ≡ vs
-drop_front us vs =
-    let n : length (us ++ vs) - length vs ≡ length us = omega (arith, length-append us vs) in
-    ap (λ k. drop k (us ++ vs)) n ∙ drop-append-le (length us) us vs (omega arith) ∙ ap (λ xs. xs ++ vs) (drop_all (length us) us (omega arith))
-
-turned : {X : Type 0} (xs : List X) (k : ℕ) → reverse xs ≡ reverse (drop k xs) ++ reverse (take k xs)
-turned xs k = ap reverse (sym (take-append-drop k xs)) ∙ reverse-append (take k xs) (drop k xs)
-
-length_oldest : {X : Type 0} (xs : List X) (k : ℕ) → k ≤ length xs → length (reverse (take k xs)) ≡ k
-length_oldest xs k h = length-reverse (take k xs) ∙ length-take-le k xs h
-
-oldest : {X : Type 0} (xs : List X) (k : ℕ) → k ≤ length (reverse xs) → drop (length (reverse xs) - k) (reverse xs) ≡ reverse (take k xs)
-oldest xs k h =
-    let n = length_oldest xs k (omega (arith, h, length-reverse xs)) in
-    ap (λ ys. drop (length ys - k) ys) (turned xs k)
-    ∙ ap (λ j. drop (length (reverse (drop k xs) ++ reverse (take k xs)) - j) (reverse (drop k xs) ++ reverse (take k xs))) (sym n)
-    ∙ drop_front (reverse (drop k xs)) (reverse (take k xs))
-
-pub truncated : {X Y : Type 0} (f : X → Y) (xs : List X) (k : ℕ) → k ≤ length (reverse (map f xs))
-    → reverse (map f (take k xs)) ≡ drop (length (reverse (map f xs)) - k) (reverse (map f xs))
-truncated f xs k h = ap reverse (sym (take-map f k xs)) ∙ sym (oldest (map f xs) k h)
 
 -- ---- one of them
 

@@ -20,7 +20,7 @@ use Rattle.hum_core.specs.Units.{Scope, Part, OfStmt, block, functions, group_na
 use Rattle.hum_core.specs.Lists.{tested_stmt}
 use Rattle.hum_core.proofs.FormedParts.{IfFunction}
 use Rattle.hum_core.proofs.ScopedNames.{Fine, fine_parts, Sees, marks_seen, group_seen}
-use Rattle.hum_emit.proofs.Sights.{judged_stmt, judged_as_found, functions_among, taken_on, behind_taken, none_ahead}
+use Rattle.hum_core.proofs.ScopedBlocks.{judged_stmt, judged_as_found, functions_among, taken_on, behind_taken, none_ahead}
 use Rattle.hum_core.proofs.UnitPlaces.{made_stmt, sized_stmt}
 use Rattle.hum_core.proofs.BoundNames.{found_stmt}
 use Rattle.hum_code.specs.Layout.{Shape, Several, with_singles}

@@ -9,13 +9,13 @@ use Rattle.hum_core.specs.declared.tested.TestUnit.{TestUnit}
 use Rattle.hum_meaning.specs.Named.{written}
 use Rattle.hum_meaning.specs.Look.{outermost}
 use Rattle.hum_meaning.specs.Scope as judged
-use Rattle.hum_meaning.specs.Scope.{Scoped, outermost_scope, most_bindings}
+use Rattle.hum_meaning.specs.Scope.{Scoped, outermost_scope}
 use Rattle.hum_core.specs.Alike.{scope_of, Each}
 use Rattle.hum_core.specs.Units.{resolved}
 use Rattle.hum_core.specs.Lists.{tested}
 use Rattle.hum_core.proofs.ScopedNames.{Fine}
 use Rattle.hum_core.proofs.BoundNames.{found_stmt}
-use Rattle.hum_emit.proofs.Sights.{outermost_seen}
+use Rattle.hum_core.proofs.ScopedFiles.{outermost_seen}
 use Rattle.hum_code.specs.Layout.{Shape}
 use Rattle.hum_emit.specs.Shapes.{outermost_shape, shapes_of, BlockIn, UnitFits, fits_to}
 use Rattle.hum_emit.specs.Laws.{ShapesOfProgramsFit}

@@ -19,7 +19,7 @@ use Rattle.hum_core.specs.declared.tested.TestBranch.{TestBranch}
 use Rattle.hum_meaning.specs.Scope as judged
 use Rattle.hum_meaning.specs.Scope.{Place, behind, most_bindings}
 use Rattle.hum_core.specs.Units as made
-use Rattle.hum_core.specs.Units.{Scope, in_order, item_names, OfPat}
+use Rattle.hum_core.specs.Units.{Scope, in_order, item_names}
 use Rattle.hum_core.specs.Lists.{tuple_tested, tested_pat}
 use Rattle.hum_core.specs.Lowering.{left_behind}
 use Rattle.hum_core.proofs.ScopedNames.{Fine, fine_parts}

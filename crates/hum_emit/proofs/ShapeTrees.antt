@@ -39,11 +39,11 @@ use Rattle.hum_core.specs.declared.tested.Test.{Test, out-Test}
 use Rattle.hum_core.specs.declared.tested.Test.TheVariants as test
 use Rattle.hum_core.specs.declared.tested.TestArm.{TestArm, out-TestArm}
 use Rattle.hum_core.specs.declared.tested.TestBranch.{TestBranch, out-TestBranch}
-use Rattle.hum_core.specs.declared.tested.Test.TheOpen.{Test-F, TestExpr-F, TestArm-F, TestBranch-F}
+use Rattle.hum_core.specs.declared.tested.Test.TheOpen.{Test-F, TestArm-F, TestBranch-F}
 use Rattle.hum_core.specs.declared.tested.Test.TheOpen as layer
 use Rattle.hum_core.specs.declared.tested.Test.TheViews.{out-roll-TestArm, out-roll-TestBranch}
 use Rattle.hum_meaning.specs.Scope as judged
-use Rattle.hum_meaning.specs.Scope.{Verdicts, Place, Binds, Function, Values, Nothing, fresh, most_bindings, bound}
+use Rattle.hum_meaning.specs.Scope.{fresh, bound}
 use Rattle.hum_core.specs.Alike.{with_marks}
 use Rattle.hum_core.specs.Agreement.{slot_of}
 use Rattle.hum_core.specs.Units as made
@@ -64,7 +64,7 @@ use Rattle.hum_emit.proofs.ShapeTests.{to, node_to, TestsGo, PatFit, tests_to, r
 use Rattle.hum_emit.proofs.ShapeBlocks as blocks
 use Rattle.hum_emit.proofs.ShapeBlocks.{StmtFit, block_fits}
 use Rattle.hum_emit.proofs.ShapePatterns as patterns
-use Rattle.hum_emit.proofs.ShapePatterns.{after_is, one_go, one_behind, items_behind, ItemsGo, items_go}
+use Rattle.hum_emit.proofs.ShapePatterns.{after_is, one_go, one_behind, items_behind, items_go}
 
 -- what is found of the nodes of a tree
 abbrev looked : Steps judged.OfExpr judged.OfPat judged.OfStmt judged.Part judged.Part

@@ -1,7 +1,6 @@
 -- How many items a program's module has.
-use Rattle.std.proofs.Common.{◌≡◌, refl, ℕ, zero, suc, ◌+◌, ◌*◌, ◌≤◌, true, List, [], ◌∷◌, map, arith}
-use Rattle.std.specs.Prelude.{sum, nat_le, slice_index}
-use Rattle.std.proofs.lemmas.Bool.{leb-true}
+use Rattle.std.proofs.Common.{ℕ, zero, suc, ◌+◌, ◌*◌, ◌≤◌, List, [], ◌∷◌, map, arith}
+use Rattle.std.specs.Prelude.{sum, slice_index}
 use Rattle.hum_syntax.proofs.SizedTrees.{sum-cons, spelled_size}
 use Rattle.hum_syntax.specs.declared.tree.Stmt.{Stmt}
 use Rattle.hum_syntax.specs.Tokens.{Placed, kinds_of, weight}
@@ -18,13 +17,14 @@ use Rattle.hum_core.specs.Sizes.{size_of_expr, size_of_tests, size_of_stmt, size
 use Rattle.hum_core.proofs.SizedUnits.{programs_are_small}
 use Rattle.hum_code.specs.Layout.{Shape, with_singles}
 use Rattle.hum_emit.specs.Emitted.{Emitted, ◌▷◌, dup}
-use Rattle.hum_emit.specs.Runtime.{runtime, fail_place}
+use Rattle.hum_emit.specs.Runtime.{fail_place}
 use Rattle.hum_emit.specs.Templates.{matching, after_all, expr_code, test_code, statement, shape_after, statements, unit_code, units_code, push_data, boot_code}
 use Rattle.hum_emit.specs.Program.{start}
 use Rattle.hum_emit.specs.Shapes.{shapes_of}
 use Rattle.hum_emit.specs.Compiled.{compiled}
 use Rattle.hum_emit.specs.Size.{item_count, EmissionsAreSmall, ModulesAreSmall, ProgramsLink}
 use Rattle.hum_emit.proofs.Size.{Adds, a_one, a_choose, a_calls, a_jump, a_nothing, a_both, a_to, a_fits}
+use Rattle.hum_emit.proofs.SizeStart.{start_small}
 use Rattle.hum_emit.proofs.SizeTrees.{adds_expr, adds_tests}
 use Rattle.hum_emit.proofs.Linking.{item_count as items_are, links}
 
@@ -79,15 +79,10 @@ push_adds from (suc n) = a_fits 0 (suc n) (a_both a_one (push_adds (suc from) n)
 boot_adds : Adds 0 17 boot_code
 boot_adds = a_both a_one (a_both a_one (a_both (push_adds 0 12) (a_both a_one (a_both a_one a_one))))
 
--- the fixed code, by computing
-start_test : nat_le (item_count start) 4063 ≡ true
-unfolding runtime
-start_test = refl
-
 pub emissions_are_small : EmissionsAreSmall
 emissions_are_small units shapes =
     let made = units_code units shapes start in
-    let fixed = leb-true (item_count start) 4063 start_test in
+    let fixed = start_small in
     let is = units_add units shapes start in
     let boot = boot_adds.at (slice_index made.1 0) made.0 in
     omega (arith, fixed, is, boot)

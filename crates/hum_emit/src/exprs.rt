@@ -46,9 +46,9 @@ pub fn expr<'a>(
         TestExpr::Block(unit) => block(out, *unit, k),
         TestExpr::Call(callee, argument) => {
             let k = out.calls(CALL, k)?;
-            let k = expr(out, scope, argument.get(), k)?;
+            let k = operand(out, scope, argument.get(), k)?;
             let k = out.roll(2, k)?;
-            let k = expr(out, scope, callee.get(), k)?;
+            let k = operand(out, scope, callee.get(), k)?;
             out.dup(1, k)
         }
         TestExpr::Tuple(items) => tuple(out, scope, items.as_slice(), k),
@@ -71,6 +71,28 @@ pub fn expr<'a>(
         TestExpr::If(conditions, other) => {
             branches(out, scope, conditions.as_slice(), *other, k)
         }
+    }
+}
+
+// An expression in a call. Callees stand one in another beyond the depth of a program, so here a call goes on without the frame of `expr`.
+#[cycle(emit)]
+fn operand<'a>(
+    out: &mut Emitter<'a>,
+    scope: &Scope<'_, 'a>,
+    e: &'a TestExpr,
+    k: u32,
+) -> Result<u32, AllocError>
+    ensures { IfOk result (λ at. (emitted out.new, at) ≡ spec.expr_code e.now (shape_in scope.now) k (emitted out.old)) }
+{
+    match e {
+        TestExpr::Call(callee, argument) => {
+            let k = out.calls(CALL, k)?;
+            let k = operand(out, scope, argument.get(), k)?;
+            let k = out.roll(2, k)?;
+            let k = operand(out, scope, callee.get(), k)?;
+            out.dup(1, k)
+        }
+        _ => expr(out, scope, e, k),
     }
 }
 

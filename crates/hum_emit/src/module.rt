@@ -67,32 +67,32 @@ fn next_operand(alloc: Global, next: Option<u32>) -> Result<Operand, NoMemory>
     }
 }
 
-fn item(alloc: Global, labels: Names, x: &Instruction) -> Result<Item, NoMemory>
-    requires { x.now.operation < 2 ^ 30 }
-    ensures { IfOk result (λ made. made ≡ spec.item_of labels x.now) }
+fn item(alloc: Global, labels: Names, instruction: &Instruction) -> Result<Item, NoMemory>
+    requires { instruction.now.operation < 2 ^ 30 }
+    ensures { IfOk result (λ made. made ≡ spec.item_of labels instruction.now) }
 {
     Ok(Item {
         labels,
         cell: [
             Operand::Const(9),
-            Operand::Fix(x.operation as i32),
-            operand(alloc, x.field)?,
-            next_operand(alloc, x.next)?,
+            Operand::Fix(instruction.operation as i32),
+            operand(alloc, instruction.field)?,
+            next_operand(alloc, instruction.next)?,
         ],
     })
 }
 
-fn datum_item(alloc: Global, j: u32, d: &Datum) -> Result<Item, NoMemory>
-    ensures { IfOk result (λ made. made ≡ spec.datum_item j d.now) }
+fn datum_item(alloc: Global, j: u32, datum: &Datum) -> Result<Item, NoMemory>
+    ensures { IfOk result (λ made. made ≡ spec.datum_item j datum.now) }
 {
     let mut labels = Vec::new(alloc);
     labels.push(datum_label(alloc, j)?)?;
     Ok(Item {
         labels: Names::from_vec(labels),
         cell: [
-            Operand::Const(d.kind),
-            operand(alloc, d.first)?,
-            operand(alloc, d.second)?,
+            Operand::Const(datum.kind),
+            operand(alloc, datum.first)?,
+            operand(alloc, datum.second)?,
             Operand::Const(0),
         ],
     })
@@ -154,13 +154,7 @@ fn add_fixed_label(
     Ok(())
 }
 
-fn labels_of(
-    alloc: Global,
-    size: usize,
-    i: u32,
-    k: u32,
-    entries: &[u32],
-) -> Result<Names, NoMemory>
+fn labels_of(alloc: Global, size: usize, i: u32, k: u32, entries: &[u32]) -> Result<Names, NoMemory>
     ensures { IfOk result (λ names. names ≡ spec.labels_of size i k entries.now) }
 {
     let mut labels = Vec::new(alloc);

@@ -53,7 +53,7 @@ impl<'a> Rows<'a> {
     }
 
     // The entries from that one on, the newest first.
-    fn from(&self, alloc: Global, top: usize) -> Result<Vec<Entry<'a>>, NoMemory>
+    fn entries_from(&self, alloc: Global, top: usize) -> Result<Vec<Entry<'a>>, NoMemory>
         ensures { IfOk result (λ entries. map kind_of entries.items ≡ shape_at self.now top) }
     {
         let mut entries = Vec::new(alloc);
@@ -61,6 +61,7 @@ impl<'a> Rows<'a> {
         while next != 0 && next <= self.rows.len() {
             let row = self.rows[next - 1];
             entries.push(row.entry)?;
+            // each entry names an earlier one, so this comes to an end
             if row.behind >= next {
                 return Ok(entries);
             }
@@ -70,10 +71,10 @@ impl<'a> Rows<'a> {
     }
 
     /// Makes the shape the one that begins with that entry.
-    pub fn copy(&self, alloc: Global, top: usize, shape: &mut Shape<'a>) -> Result<(), NoMemory>
+    pub fn fill(&self, alloc: Global, top: usize, shape: &mut Shape<'a>) -> Result<(), NoMemory>
         ensures { OnOk result (shape.new ≡ shape_at self.now top) }
     {
-        let entries = self.from(alloc, top)?;
+        let entries = self.entries_from(alloc, top)?;
         let count = entries.len();
         shape.truncate(0);
         for i in 0..count {

@@ -31,6 +31,7 @@ struct Walk<'a> {
     found: Vec<usize>,
 }
 
+// One entry more, in front of those from `top` on; its number.
 fn enter<'a>(walk: &mut Walk<'a>, top: usize, entry: Entry<'a>) -> Result<usize, NoMemory>
     requires { top ≤ length walk.old.rows }
     ensures found { OnOk result (Found [] walk.old walk.new) }
@@ -39,6 +40,7 @@ fn enter<'a>(walk: &mut Walk<'a>, top: usize, entry: Entry<'a>) -> Result<usize,
     walk.rows.enter(top, entry)
 }
 
+// So many bindings more, in front of those from `top` on; the number of the newest.
 fn enter_singles(walk: &mut Walk<'_>, top: usize, count: usize) -> Result<usize, NoMemory>
     requires { top ≤ length walk.old.rows }
     ensures found { OnOk result (Found [] walk.old walk.new) }
@@ -60,6 +62,7 @@ fn note(walk: &mut Walk<'_>, top: usize) -> Result<(), NoMemory>
     Ok(())
 }
 
+// What is in an expression whose place has the entries from `top` on; and so on for each kind of part.
 #[cycle(walk)]
 fn expr(walk: &mut Walk<'_>, e: &TestExpr, top: usize) -> Result<(), NoMemory>
     requires { top ≤ length walk.old.rows }
@@ -215,6 +218,7 @@ fn statement<'a>(
     }
 }
 
+// What is in statements, each behind those before it.
 fn statements<'a>(
     walk: &mut Walk<'a>,
     statements: &'a [TestStmt],
@@ -230,6 +234,7 @@ fn statements<'a>(
     Ok(())
 }
 
+// What is in a unit.
 fn unit<'a>(walk: &mut Walk<'a>, unit: &'a TestUnit, top: usize) -> Result<(), NoMemory>
     requires { top ≤ length walk.old.rows }
     ensures { OnOk result (Found (spec.in_unit unit.now (shape_at walk.old.rows top)) walk.old walk.new) }
@@ -296,6 +301,6 @@ impl<'a> Shapes<'a> {
         requires { unit < length self.now.tops.items }
         ensures { OnOk result (shape.new ≡ slice_index_or (map (shape_at self.now.rows) self.now.tops.items) unit []) }
     {
-        self.rows.copy(alloc, self.tops[unit], shape)
+        self.rows.fill(alloc, self.tops[unit], shape)
     }
 }

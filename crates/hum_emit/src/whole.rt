@@ -86,6 +86,7 @@ fn boot(out: &mut Emitter<'_>, k: u32) -> Result<u32, NoMemory>
     out.push(Field::Place(END), k)
 }
 
+// The first instruction of unit 0.
 fn first_of(entries: &[u32]) -> u32
     ensures { result ≡ slice_index entries.now 0 }
 {
@@ -97,7 +98,9 @@ fn first_of(entries: &[u32]) -> u32
 
 // The emission of a program.
 fn emission_of(alloc: Global, program: &[TestUnit]) -> Result<Emission, NoMemory>
-    ensures { IfOk result (λ e. (e.code.items ≡ (compiled program.now).0.code) × (e.cells.items ≡ (compiled program.now).0.cells) × (e.entries.items ≡ (compiled program.now).1)) }
+    ensures code { IfOk result (λ made. made.code.items ≡ (compiled program.now).0.code) }
+    ensures cells { IfOk result (λ made. made.cells.items ≡ (compiled program.now).0.cells) }
+    ensures entries { IfOk result (λ made. made.entries.items ≡ (compiled program.now).1) }
 {
     let mut out = Emitter::start(alloc, runtime(alloc)?);
     routine_cells(&mut out)?;
@@ -123,7 +126,7 @@ fn few(count: usize) -> Result<(), NoMemory>
 }
 
 /// The module of a program, whose image holds the program: `compiled_images_hold_their_programs`. Only want of memory is an error, which
-/// 2^32 instructions or data are too.
+/// 2^32 instructions or data are too. Expressions may be of any depth, and the call takes stack for each level of them.
 pub fn emit(alloc: Global, program: &Program) -> Result<Module, NoMemory>
     requires { shaped.ShapesFit program.now.units (shaped.shapes_of program.now.units) }
     ensures { IfOk result (λ made. made ≡ compiled_module program.now.units) }

@@ -1,3 +1,4 @@
 pub mod Names
+pub mod NamePlaces
 pub mod Programs
-pub mod Slices
+pub mod Lines

@@ -1,10 +1,10 @@
-//! What is so of programs' texts and of refusals.
+// What is so of every text.
 
-ghost use Rattle.hum_front.specs.Laws.{OneProgram, OneRefusal, NeverBoth, NamesStand};
+ghost use Rattle.hum_front.specs.Laws.{OneTree, OneRefusal, NeverBoth, OneOfBoth, NamesStand};
 
-/// A text is one program's at most.
-pub fn texts_are_one_program()
-    ensures { OneProgram }
+/// A text has one tree at most.
+pub fn texts_have_one_tree()
+    ensures { OneTree }
 {}
 
 /// A text is refused in one way at most.
@@ -12,9 +12,14 @@ pub fn texts_have_one_refusal()
     ensures { OneRefusal }
 {}
 
-/// A text that is refused is no program's.
-pub fn refused_texts_are_no_programs()
+/// A text that is refused is not accepted.
+pub fn refused_texts_are_not_accepted()
     ensures { NeverBoth }
+{}
+
+/// Each text is accepted or refused.
+pub fn each_text_is_accepted_or_refused()
+    ensures { OneOfBoth }
 {}
 
 /// The name of each number among a text's tokens stands in the text at its place, and no byte of a run follows it.

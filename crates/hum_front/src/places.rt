@@ -1,55 +1,81 @@
 // Lines, columns and places in a text.
-ghost use Rattle.std.specs.Prelude.{◌≡◌, ◌<◌, ◌^◌, length};
-ghost use Rattle.hum_syntax.specs.Tokens.{all_placed};
-ghost use Rattle.hum_front.specs.Places as spec;
 
+ghost use Rattle.std.specs.Prelude.{◌≡◌, ◌<◌, ◌≤◌, ◌+◌, ◌^◌, length};
+ghost use Rattle.hum_syntax.specs.Forms.{Bytes};
+ghost use Rattle.hum_syntax.specs.Places as spec;
+ghost use Rattle.hum_syntax.specs.Places.{NameAt};
+ghost use Rattle.hum_syntax.specs.Tokens.{all_placed};
+ghost use Rattle.hum_front.specs.Accepted.{IsScopeRefusal};
+ghost use Rattle.hum_scope.specs.declared.refusal.ScopeRefused.{ScopeRefused};
+
+use hum_lex::{Class, len_of};
 use hum_syntax::{Token, TokenKind};
 
 /// A line and a column, both counted from 1.
 #[derive(Clone, Copy, Debug, PartialEq, Eq)]
 pub struct LineColumn {
     pub line: usize,
+    /// In bytes.
     pub column: usize,
 }
 
-/// The line and the column of a byte of a text of fewer than 2^32 bytes. The end of the text is one column behind its last byte.
-pub fn line_column(bytes: &[u8], at: usize) -> LineColumn
-    requires { length bytes.now < 2 ^ 32 }
-    ensures { result ≡ spec.line_column bytes.now at }
+// The place behind some bytes.
+fn place_behind(front: &[u8]) -> LineColumn
+    ensures place { (result.line, result.column) ≡ spec.place_behind front.now }
+    ensures within { result.column ≤ length front.now + 1 }
 {
-    let mut rest = bytes;
-    let mut left = at;
     let mut line = 1;
     let mut column = 1;
-    while let [byte, more @ ..] = rest {
-        if left == 0 {
-            return LineColumn { line, column };
-        }
-        if more.is_empty() {
-            return LineColumn {
-                line,
-                column: column + 1,
-            };
-        }
+    for byte in front {
         if *byte == b'\n' {
             line += 1;
             column = 1;
         } else {
             column += 1;
         }
-        left -= 1;
-        rest = more;
     }
     LineColumn { line, column }
 }
 
-/// The first byte of a token, or the end of the text where there is none.
-pub fn token_place(end: u32, tokens: &[Token], at: u32) -> u32
-    ensures { result ≡ spec.token_place end (all_placed tokens.now) at }
+/// The line and the column of a byte of a text. The end of the text, and whatever is behind it, is one column behind the last byte.
+pub fn line_column(bytes: &[u8], at: usize) -> LineColumn
+    ensures { (result.line, result.column) ≡ spec.line_column bytes.now at }
 {
-    match tokens.get(at as usize) {
+    if bytes.is_empty() {
+        return LineColumn { line: 1, column: 1 };
+    }
+    if at < bytes.len() {
+        return place_behind(&bytes[..at]);
+    }
+    let last = place_behind(&bytes[..bytes.len() - 1]);
+    LineColumn {
+        line: last.line,
+        column: last.column + 1,
+    }
+}
+
+/// The name that stands at a byte of a text: all bytes from there on that belong to one run.
+pub fn name_at(bytes: &[u8], at: usize) -> &[u8]
+    ensures name { (name : Bytes) → NameAt bytes.now at name → result.now ≡ name }
+
+    // At the place of a scope refusal it is the name that is refused.
+    ensures refused { (why : ScopeRefused) (name : Bytes) → IsScopeRefusal bytes.now why name → why.at ≡ at → result.now ≡ name }
+{
+    if at > bytes.len() {
+        return &bytes[..0];
+    }
+    let rest = &bytes[at..];
+    &rest[..len_of(Class::Run, rest)]
+}
+
+/// The first byte of the token of that number, or the end of the text where there is none.
+pub fn token_place(bytes: &[u8], tokens: &[Token], n: u32) -> u32
+    requires { length bytes.now < 2 ^ 32 }
+    ensures { result ≡ spec.token_place bytes.now (all_placed tokens.now) n }
+{
+    match tokens.get(n as usize) {
         Some(token) => token.from,
-        None => end,
+        None => bytes.len() as u32,
     }
 }
 
@@ -59,12 +85,12 @@ fn is_name(kind: &TokenKind) -> bool
     matches!(kind, TokenKind::Name(_))
 }
 
-/// The first byte of the name of that number, counted from 0.
-pub fn name_place(tokens: &[Token], at: u32) -> Option<u32>
-    ensures { result ≡ spec.name_place (all_placed tokens.now) at }
+/// The first byte of the name of that number among the tokens.
+pub fn name_place(tokens: &[Token], n: u32) -> Option<u32>
+    ensures { result ≡ spec.name_place (all_placed tokens.now) n }
 {
     let mut rest = tokens;
-    let mut left = at;
+    let mut left = n;
     while let [token, more @ ..] = rest {
         if is_name(&token.kind) {
             if left == 0 {

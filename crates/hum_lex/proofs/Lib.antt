@@ -9,3 +9,4 @@ pub mod Numbers
 pub mod Insides
 pub mod Refusals
 pub mod Decided
+pub mod Places

@@ -1,8 +1,11 @@
 -- What is so of the tokens of texts, and of their refusals.
-use Rattle.std.specs.Prelude.{◌≡◌, ◌⊎◌, ℕ, List}
+use Rattle.std.specs.Prelude.{◌≡◌, ◌⊎◌, ℕ, true, List, slice_get, Some}
+use Rattle.std.specs.List.{list_all}
 use Rattle.hum_syntax.specs.Forms.{Bytes}
-use Rattle.hum_syntax.specs.Tokens.{Placed}
+use Rattle.hum_syntax.specs.Kinds.{is_carried}
+use Rattle.hum_syntax.specs.Tokens.{Placed, kinds_of}
 use Rattle.hum_syntax.specs.Lexes.{Lexes, IsTokens}
+use Rattle.hum_syntax.specs.Places.{TokenAt}
 use Rattle.hum_lex.specs.declared.error.LexCause.{LexCause}
 use Rattle.hum_lex.specs.Faults.{IsRefusedAt}
 
@@ -21,3 +24,11 @@ NeverBoth = (bytes : Bytes) (ts : List Placed) (at : ℕ) (why : LexCause) → I
 -- and each text has tokens or is refused
 abbrev pub OneOfBoth : Type 0
 OneOfBoth = (bytes : Bytes) → ((ts : List Placed) × IsTokens bytes ts) ⊎ ((at : ℕ) × (why : LexCause) × IsRefusedAt bytes at why)
+
+-- the bytes of each token stand in the text at its place
+abbrev pub TokensStand : Type 0
+TokensStand = (bytes : Bytes) (ts : List Placed) → Lexes bytes ts → (n : ℕ) (t : Placed) → slice_get ts n ≡ Some t → TokenAt bytes t
+
+-- and each token carries what it may
+abbrev pub TokensAreCarried : Type 0
+TokensAreCarried = (bytes : Bytes) (ts : List Placed) → Lexes bytes ts → list_all is_carried (kinds_of ts) ≡ true

@@ -55,7 +55,16 @@ pub fn expr(alloc: Global, e: &CoreExpr) -> Result<TestExpr, NoMemory>
 fn boxed(alloc: Global, e: &CoreExpr) -> Result<Boxed<TestExpr>, NoMemory>
     ensures { IfOk result (λ made. made ≡ tested_expr e.now) }
 {
-    Boxed::new(alloc, expr(alloc, e)?)
+    // Callees stand one in another beyond the depth of a program, so here a call goes on without the frame of `expr`.
+    let made = match e {
+        CoreExpr::Call(callee, argument) => {
+            let callee = boxed(alloc, callee.get())?;
+            let argument = boxed(alloc, argument.get())?;
+            TestExpr::Call(callee, argument)
+        }
+        _ => expr(alloc, e)?,
+    };
+    Boxed::new(alloc, made)
 }
 
 #[cycle(lowering)]

@@ -22,3 +22,4 @@ pub mod Answered
 pub mod Inside
 pub mod Fewer
 pub mod Reread
+pub mod Decided

@@ -1,7 +1,9 @@
 -- What is so of the trees that tokens spell, and of the places of refusals.
-use Rattle.std.specs.Prelude.{◌≡◌, ℕ, List}
+use Rattle.std.specs.Prelude.{◌≡◌, ◌⊎◌, ℕ, true, List}
+use Rattle.std.specs.List.{list_all}
 use Rattle.hum_syntax.specs.declared.Tree.{Tree}
 use Rattle.hum_syntax.specs.declared.Stmt.{Stmt}
+use Rattle.hum_syntax.specs.Kinds.{is_carried}
 use Rattle.hum_syntax.specs.Spells.{Kinds, IsStmts, Spells, deepest}
 use Rattle.hum_parse.specs.Begins.{RefusedAt}
 
@@ -16,3 +18,7 @@ OneAtEachLevel = (m n : ℕ) (ks : Kinds) (xs ys : List Stmt) → IsStmts m ks x
 -- and are refused at one place at most
 abbrev pub OnePlace : Type 0
 OnePlace = (ks : Kinds) (m n : ℕ) → RefusedAt (IsStmts deepest) ks m → RefusedAt (IsStmts deepest) ks n → m ≡ n
+
+-- and where each of them carries what it may, they spell a tree or are refused
+abbrev pub OneOfBoth : Type 0
+OneOfBoth = (ks : Kinds) → list_all is_carried ks ≡ true → ((tree : Tree) × Spells ks tree) ⊎ ((at : ℕ) × RefusedAt (IsStmts deepest) ks at)

@@ -12,7 +12,8 @@ mod tokens;
 mod whole;
 
 pub use laws::{
-    tokens_are_refused_at_one_place, tokens_spell_one_tree, tokens_spell_one_tree_at_each_level,
+    tokens_are_refused_at_one_place, tokens_spell_a_tree_or_are_refused, tokens_spell_one_tree,
+    tokens_spell_one_tree_at_each_level,
 };
 pub use round_trip::read_back;
 pub use whole::{ParseError, parse};

@@ -1,4 +1,4 @@
-mod Counts
+pub mod Counts
 mod Entered
 mod NameLists
 mod Nodes

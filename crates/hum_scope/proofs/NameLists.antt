@@ -1,39 +1,10 @@
--- Lists of names, by their newest and oldest.
+-- Lists of names, of which the newest stands first.
 use Rattle.std.proofs.Common.{if◌then◌else◌, Result, Ok, Err, OnOk, ◌≡◌, refl, sym, ap, ◌∙◌, arith, ℕ, ◌-◌, ◌≤◌, Bool, true, false, ◌||◌, List, [], ◌∷◌, ◌++◌, map, length, reverse, take, drop, length-append}
 use Rattle.std.specs.Result.{is_ok}
 use Rattle.std.specs.List.{list_any}
 use Rattle.std.proofs.lemmas.List.{length-drop, length-take-le, map-append, take-map, reverse-append, length-reverse, take-append-drop, take-append-le, take_all, drop-append-le, drop_all, drop-map}
 use Rattle.std.proofs.lemmas.List.Folds.{list_any-append}
-
-pub take_front : {X : Type 0} (us vs : List X) → take (length (us ++ vs) - length vs) (us ++ vs) ≡ us
-take_front us vs =
-    let n : length (us ++ vs) - length vs ≡ length us = omega (arith, length-append us vs) in
-    ap (λ k. take k (us ++ vs)) n ∙ take-append-le (length us) us vs (omega arith) ∙ take_all (length us) us (omega arith)
-
-pub drop_front : {X : Type 0} (us vs : List X) → drop (length (us ++ vs) - length vs) (us ++ vs) ≡ vs
-drop_front us vs =
-    let n : length (us ++ vs) - length vs ≡ length us = omega (arith, length-append us vs) in
-    ap (λ k. drop k (us ++ vs)) n ∙ drop-append-le (length us) us vs (omega arith) ∙ ap (λ xs. xs ++ vs) (drop_all (length us) us (omega arith))
-
-turned : {X : Type 0} (xs : List X) (k : ℕ) → reverse xs ≡ reverse (drop k xs) ++ reverse (take k xs)
-turned xs k = ap reverse (sym (take-append-drop k xs)) ∙ reverse-append (take k xs) (drop k xs)
-
-length_oldest : {X : Type 0} (xs : List X) (k : ℕ) → k ≤ length xs → length (reverse (take k xs)) ≡ k
-length_oldest xs k h = length-reverse (take k xs) ∙ length-take-le k xs h
-
-pub newest : {X : Type 0} (xs : List X) (k : ℕ) → k ≤ length (reverse xs) → take (length (reverse xs) - k) (reverse xs) ≡ reverse (drop k xs)
-newest xs k h =
-    let n = length_oldest xs k (omega (arith, h, length-reverse xs)) in
-    ap (λ ys. take (length ys - k) ys) (turned xs k)
-    ∙ ap (λ j. take (length (reverse (drop k xs) ++ reverse (take k xs)) - j) (reverse (drop k xs) ++ reverse (take k xs))) (sym n)
-    ∙ take_front (reverse (drop k xs)) (reverse (take k xs))
-
-pub oldest : {X : Type 0} (xs : List X) (k : ℕ) → k ≤ length (reverse xs) → drop (length (reverse xs) - k) (reverse xs) ≡ reverse (take k xs)
-oldest xs k h =
-    let n = length_oldest xs k (omega (arith, h, length-reverse xs)) in
-    ap (λ ys. drop (length ys - k) ys) (turned xs k)
-    ∙ ap (λ j. drop (length (reverse (drop k xs) ++ reverse (take k xs)) - j) (reverse (drop k xs) ++ reverse (take k xs))) (sym n)
-    ∙ drop_front (reverse (drop k xs)) (reverse (take k xs))
+pub use Rattle.hum_core.proofs.NewestItems.{drop_front, newest, truncated}
 
 or_last : (a b : Bool) → (a || (b || false)) ≡ (b || a)
 or_last true true = refl
@@ -67,10 +38,6 @@ extended f xs ys k h =
     ∙ reverse-append (map f xs) (map f (drop k ys))
     ∙ ap (λ zs. reverse zs ++ shown f xs) (sym (drop-map f k ys))
     ∙ ap (λ zs. zs ++ shown f xs) (sym (newest (map f ys) k h))
-
-pub truncated : {X Y : Type 0} (f : X → Y) (xs : List X) (k : ℕ) → k ≤ length (shown f xs)
-    → shown f (take k xs) ≡ drop (length (shown f xs) - k) (shown f xs)
-truncated f xs k h = ap reverse (sym (take-map f k xs)) ∙ sym (oldest (map f xs) k h)
 
 pub newest_of_all : {X : Type 0} (xs : List X) → take (length xs - 0) xs ≡ xs
 newest_of_all xs = take_all (length xs - 0) xs (omega arith)

@@ -191,7 +191,16 @@ fn boxed<'a>(work: &mut Translation<'a>, e: &'a Expr) -> Result<Boxed<CoreExpr>,
     ensures next { OnOk result (work.new.next ≡ work.old.next + (made_of_expr e.now).part.size) }
     ensures sight { OnOk result (work.new.sight ≡ work.old.sight) }
 {
-    Boxed::new(work.alloc, expr(work, e)?)
+    // Callees stand one in another beyond the depth of a program, so here a call goes on without the frame of `expr`.
+    let made = match e {
+        Expr::Call(callee, argument) => {
+            let callee = boxed(work, callee.get())?;
+            let argument = boxed(work, argument.get())?;
+            CoreExpr::Call(callee, argument)
+        }
+        _ => expr(work, e)?,
+    };
+    Boxed::new(work.alloc, made)
 }
 
 #[cycle(translation)]

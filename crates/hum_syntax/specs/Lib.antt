@@ -10,3 +10,4 @@ pub mod Laws
 pub mod Writes
 pub mod Prints
 pub mod Depths
+pub mod Places

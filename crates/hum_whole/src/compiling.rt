@@ -11,7 +11,7 @@ ghost use Rattle.hum_whole.specs.Compiled.{IsCompiled};
 
 use hum_core::{Program, Resolved};
 use hum_emit::emit;
-use hum_front::{Reading, TextError, read_text};
+use hum_front::{Reading, StartError, read_text};
 use hum_match::lower;
 use hum_syntax::Tree;
 use quad_memory::Image;
@@ -90,7 +90,7 @@ fn lowered(alloc: Global, resolved: &Resolved) -> Result<Program, AllocError>
 /// The program of a text, and its image.
 ///
 /// A text that is no program's is refused, and so it is in one way. A call may answer `NoMemory` whatever the text is.
-pub fn compile(alloc: Global, bytes: &[u8]) -> Result<Compiled, TextError>
+pub fn compile(alloc: Global, bytes: &[u8]) -> Result<Compiled, StartError>
     ensures accepted { IfOk result (λ c. Accepted bytes.now c.tree) }
     ensures fails { IfErr result (Fails bytes.now) }
 {
@@ -99,7 +99,7 @@ pub fn compile(alloc: Global, bytes: &[u8]) -> Result<Compiled, TextError>
         Err(e) => return Err(e),
     };
     let Ok(program) = lowered(alloc, &resolved) else {
-        return Err(TextError::NoMemory);
+        return Err(StartError::NoMemory);
     };
     match image_of(alloc, &tree, &program) {
         Ok(image) => Ok(Compiled {
@@ -107,6 +107,6 @@ pub fn compile(alloc: Global, bytes: &[u8]) -> Result<Compiled, TextError>
             program,
             image,
         }),
-        Err(_) => Err(TextError::NoMemory),
+        Err(_) => Err(StartError::NoMemory),
     }
 }

@@ -51,4 +51,6 @@ PlainOutcome payer s Commits = Unit {0}
 
 -- for the row of every such operation
 abbrev pub PlainRowsLeaveSponsors : Type 0
-PlainRowsLeaveSponsors = (own : Own) (op : Op) (s : Seen) (sheet : List Account) (e : Effects) (vs : List W) (k : W) → IsPlain op → PlainOutcome own.sponsor s (row own op s sheet e vs k).outcome
+PlainRowsLeaveSponsors =
+    (own : Own) (op : Op) (s : Seen) (sheet : List Account) (e : Effects) (vs : List W) (k : W)
+    → IsPlain op → PlainOutcome own.sponsor s (row own op s sheet e vs k).outcome

@@ -12,6 +12,8 @@ mod runs;
 #[cfg(test)]
 mod scope;
 #[cfg(test)]
+mod texts;
+#[cfg(test)]
 mod tokens;
 #[cfg(test)]
 mod trees;

@@ -5,3 +5,5 @@
 
 #[cfg(test)]
 mod programs;
+#[cfg(test)]
+mod tall;

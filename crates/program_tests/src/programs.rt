@@ -1,11 +1,13 @@
-use cap_words::Word;
+//! Worked programs: what each writes, and how its events end.
+
+ghost use Rattle.std.specs.Prelude.{IfOk};
+ghost use Rattle.hum_emit.specs.Shapes.{shapes_of, ShapesFit};
+
 use hum_core::Program;
 use hum_emit::emit;
-use hum_lex::lex;
+use hum_front::read_text;
 use hum_match::lower;
 use hum_outside::MemSink;
-use hum_parse::parse;
-use hum_scope::resolve;
 use std::alloc::Global;
 use std::process::Abort;
 use std::test::Fail;
@@ -14,39 +16,29 @@ use vm_machine::{Lanes, Machine};
 use vm_sponsor::Grant;
 use vm_turn::{Outcome, Turn};
 
-fn program(alloc: Global, text: &[u8]) -> Result<Program, Fail> {
-    if text.len() >= 100_000 {
-        return Err(Fail::new("too long"));
-    }
-    let Ok(tokens) = lex(alloc, text) else {
-        return Err(Fail::new("no tokens"));
+/// The program of a text.
+pub fn program(alloc: Global, text: &[u8]) -> Result<Program, Fail>
+    ensures { IfOk result (λ p. ShapesFit p.units (shapes_of p.units)) }
+{
+    let Ok(reading) = read_text(alloc, text) else {
+        return Err(Fail::new("the text is refused"));
     };
-    if tokens.len() >= 100_000 {
-        return Err(Fail::new("too many tokens"));
-    }
-    let Ok(tree) = parse(alloc, &tokens) else {
-        return Err(Fail::new("no tree"));
-    };
-    let Ok(resolved) = resolve(alloc, &tree) else {
-        return Err(Fail::new("a name is refused"));
-    };
-    Ok(lower(alloc, &resolved)?)
+    Ok(lower(alloc, &reading.resolved)?)
 }
 
-fn machine(rt: &impl Abort, alloc: Global, text: &[u8]) -> Result<Machine, Fail> {
-    let program = program(alloc, text)?;
-    let module = emit(alloc, &program)?;
-    let mut modules = Vec::new(alloc);
-    modules.push(module)?;
-    let Ok(image) = link(alloc, modules.as_slice()) else {
+/// The machine that a text's image boots to.
+pub fn machine(rt: &impl Abort, alloc: Global, text: &[u8]) -> Result<Machine, Fail> {
+    let module = emit(alloc, &program(alloc, text)?)?;
+    let modules = [module];
+    let Ok(image) = link(alloc, &modules) else {
         return Err(Fail::new("no image"));
     };
     let grant = Grant::new(1_000_000, 1000, 1_000_000).expect(rt, "a grant");
     Ok(Machine::boot(alloc, &image, grant, Lanes { count: 1, seed: 7 })?)
 }
 
-// How the events of a program end, with 0 for one that commits, and what it writes.
-fn runs(
+/// How the events of a program end, with 0 for one that commits, and what it writes.
+pub fn runs(
     rt: &impl Abort,
     alloc: Global,
     text: &[u8],
@@ -75,7 +67,7 @@ fn runs(
     Ok(())
 }
 
-const ROWS: [(&[u8], &[i32], &[u8]); 7] = [
+const ROWS: [(&[u8], &[i32], &[u8]); 24] = [
     (b"", &[0], b""),
     (b"SEND 42 TO println", &[0, 0], b"42\n"),
     (
@@ -91,6 +83,75 @@ const ROWS: [(&[u8], &[i32], &[u8]); 7] = [
     ),
     (b"SEND 1 TO println THROW #no", &[7], b""),
     (b"CASE 3 OF 1 : [ ] END", &[1], b""),
+    (
+        b"LET t(a, b) = CASE a OF $b : #yes _ : #no END SEND t((1, 2), (1, 2)) TO println SEND t(t, t) TO println",
+        &[0, 0, 0],
+        b"#yes\n#no\n",
+    ),
+    (
+        b"LET e(a) = equal(a, a) SEND e(e) TO println SEND e([ ]) TO println SEND e((1, #a)) TO println",
+        &[0, 0, 0, 0],
+        b"FALSE\nFALSE\nTRUE\n",
+    ),
+    (
+        b"SEND \"hi\" TO say SEND \"\" TO say",
+        &[0, 0, 0],
+        b"hi\n\n",
+    ),
+    (
+        b"LET a = 5 LET f(a, $a, b) = (a, b) SEND f(1, 5, 3) TO println",
+        &[0, 0],
+        b"(1, 3)\n",
+    ),
+    (
+        b"LET f(x) = CASE x OF (1, a) : #a 9 : #b _ : #c END SEND f(9, 0) TO println SEND f(9) TO println SEND f(1, 0) TO println",
+        &[0, 0, 0, 0],
+        b"#c\n#b\n#a\n",
+    ),
+    (
+        b"SEND CASE 2 OF 1 : #a 2 : #b 2 : #c _ : #d END TO println",
+        &[0, 0],
+        b"#b\n",
+    ),
+    (
+        b"LET size(n) = CASE n OF (_, x) : x #one : 1 #two : 2 NIL : 0 y : y END
+        SEND size((4, 5)) TO println SEND size(#one) TO println SEND size(#two) TO println
+        SEND size(NIL) TO println SEND size(9) TO println",
+        &[0, 0, 0, 0, 0, 0],
+        b"5\n1\n2\n0\n9\n",
+    ),
+    (
+        b"IF less(2, 1) [ SEND 1 TO println ] ELIF less(1, 2) [ SEND 2 TO println ] ELSE [ SEND 3 TO println ]
+        IF FALSE [ SEND 1 TO println ] ELIF FALSE [ SEND 2 TO println ] ELSE [ SEND 3 TO println ]",
+        &[0, 0, 0],
+        b"2\n3\n",
+    ),
+    (b"IF 1 [ ]", &[5], b""),
+    (b"SEND and(TRUE, 1) TO println", &[5], b""),
+    (b"SEND and(FALSE, 1) TO println", &[5], b""),
+    (b"SEND 1 TO 2", &[3], b""),
+    (b"SEND add(1, #a) TO add(1)", &[4], b""),
+    (b"LET f = 3 SEND f(4) TO println", &[2], b""),
+    // Three programs of actors.
+    (
+        b"LET label(tag, out) = \\m.[ SEND (tag, m) TO out ] CREATE a WITH label(#a, println)
+        CREATE b WITH label(#b, a) SEND 7 TO b",
+        &[0, 0, 0, 0],
+        b"(#a, #b, 7)\n",
+    ),
+    (
+        b"LET twice(out) = \\m.[ CASE m OF #bad : [ BECOME quiet BECOME quiet ] _ : [ SEND m TO out ] END ]
+        LET quiet = \\_.[ ] CREATE t WITH twice(println) SEND #bad TO t SEND 5 TO t",
+        &[0, 6, 0, 0],
+        b"5\n",
+    ),
+    (
+        b"LET answer(n) = \\cust.[ SEND n TO cust ]
+        LET start(x, y, cust) = \\_.[ SEND SELF TO x SEND SELF TO y BECOME \\a.[ BECOME \\b.[ SEND add(a, b) TO cust ] ] ]
+        CREATE x WITH answer(3) CREATE y WITH answer(4) CREATE j WITH start(x, y, println) SEND NIL TO j",
+        &[0, 0, 0, 0, 0, 0, 0],
+        b"7\n",
+    ),
 ];
 
 #[test]
@@ -99,52 +160,4 @@ fn rows(rt: HostRuntime) -> Result<(), Fail> {
         runs(&rt, rt.alloc(), text, ends, written)?;
     }
     Ok(())
-}
-
-const A: &[u8] =
-    b"LET label(tag, out) = \\m.[ SEND (tag, m) TO out ] CREATE a WITH label(#a, println) CREATE b WITH label(#b, a) SEND 7 TO b";
-
-const B: &[u8] =
-    b"LET twice(out) = \\m.[ CASE m OF #bad : [ BECOME quiet BECOME quiet ] _ : [ SEND m TO out ] END ] LET quiet = \\_.[ ] CREATE t WITH twice(println) SEND #bad TO t SEND 5 TO t";
-
-const C: &[u8] =
-    b"LET t(a, b) = CASE a OF $b : #yes _ : #no END SEND t((1, 2), (1, 2)) TO println SEND t(t, t) TO println";
-
-const D: &[u8] =
-    b"LET answer(n) = \\cust.[ SEND n TO cust ] LET start(x, y, cust) = \\_.[ SEND SELF TO x SEND SELF TO y BECOME \\a.[ BECOME \\b.[ SEND add(a, b) TO cust ] ] ] CREATE x WITH answer(3) CREATE y WITH answer(4) CREATE j WITH start(x, y, println) SEND NIL TO j";
-
-#[test]
-fn programs(rt: HostRuntime) -> Result<(), Fail> {
-    let alloc = rt.alloc();
-    runs(&rt, alloc, A, &[0, 0, 0, 0], b"(#a, #b, 7)\n")?;
-    runs(&rt, alloc, B, &[0, 6, 0, 0], b"5\n")?;
-    runs(&rt, alloc, C, &[0, 0, 0], b"#yes\n#no\n")?;
-    runs(&rt, alloc, D, &[0, 0, 0, 0, 0, 0, 0], b"7\n")?;
-    runs(
-        &rt,
-        alloc,
-        b"SEND \"hi\" TO say SEND \"\" TO say",
-        &[0, 0, 0],
-        b"hi\n\n",
-    )
-}
-
-// Branches, and arms behind the second one.
-#[test]
-fn choices(rt: HostRuntime) -> Result<(), Fail> {
-    let alloc = rt.alloc();
-    let text = b"LET size(n) = CASE n OF (_, x) : x #one : 1 #two : 2 NIL : 0 y : y END
-        SEND size((4, 5)) TO println SEND size(#one) TO println SEND size(#two) TO println SEND size(NIL) TO println SEND size(9) TO println
-        IF less(2, 1) [ SEND 1 TO println ] ELIF less(1, 2) [ SEND 2 TO println ] ELSE [ SEND 3 TO println ]
-        IF FALSE [ SEND 1 TO println ] ELIF FALSE [ SEND 2 TO println ] ELSE [ SEND 3 TO println ]";
-    runs(
-        &rt,
-        alloc,
-        text,
-        &[0, 0, 0, 0, 0, 0, 0, 0],
-        b"5\n1\n2\n0\n9\n2\n3\n",
-    )?;
-    runs(&rt, alloc, b"IF 3 [ ]", &[5], b"")?;
-    runs(&rt, alloc, b"SEND 1 TO 2", &[3], b"")?;
-    runs(&rt, alloc, b"LET f = 3 SEND f(4) TO println", &[2], b"")
 }

@@ -1,24 +1,19 @@
 -- What was written has no part in a turn.
-use Rattle.std.proofs.Common.{◌≡◌, ℕ, List, [], ◌∷◌, length, Option, Some, None, Bool, true, false, ap, refl, ◌∙◌}
+use Rattle.std.proofs.Common.{◌≡◌, ℕ, List, length, Option, Some, None, Bool, true, false, ap, refl}
 use Rattle.std.specs.Prelude.{◌%◌, slice_get}
-use Rattle.std.specs.Prelude.{pos}
-use Rattle.cap_words.specs.Words.{W, Fix, same_word, undef}
-use Rattle.cap_words.specs.Store.{cap_place}
-use Rattle.cap_words.specs.Seen.{Seen, Slot, OpenSlot, ActorSlot, UnbornSlot, EventSlot, SponsorSlot, SpentSlot, slot_seen, altered}
+use Rattle.cap_words.specs.Words.{W, same_word}
 use Rattle.instr_table.specs.declared.charge.Quota.{Quota}
-use Rattle.instr_table.specs.Event.{Sent, Made, Effects, no_effects}
+use Rattle.instr_table.specs.Event.{Sent, no_effects}
 use Rattle.instr_table.specs.Sheet.{Account, account, short, spend, stop, prepared}
 use Rattle.instr_table.specs.Outcome.{Outcome, Goes, Faults, Commits, Row}
 use Rattle.instr_table.specs.Lane.{Lane, lane_row}
-use Rattle.vm_effects.specs.Actors.{all_idle}
 use Rattle.vm_turn.specs.declared.journal.Outcome.TheVariants.{RanOut}
 use Rattle.vm_turn.specs.declared.journal.Turn.{Turn as Answer}
 use Rattle.vm_turn.specs.State.{State, Message, root}
-use Rattle.vm_turn.specs.Actors.{sent_at, refilled, remade, at_actor, busy, resting, settled}
+use Rattle.vm_turn.specs.Actors.{sent_at}
 use Rattle.vm_turn.specs.Piece.{piece}
-use Rattle.vm_turn.specs.Turn.{act, charged, deliver, device_of, dispatch, dispatchable, finish, go, out_by, released, signal_number, step, turn, unless_spent}
+use Rattle.vm_turn.specs.Turn.{act, charged, deliver, device_of, dispatch, dispatchable, finish, go, out_by, released, step, turn, unless_spent}
 use Rattle.vm_machine.specs.View.{unwritten}
-use Rattle.vm_machine.proofs.Growth.{going-grown}
 
 -- ---- what was written
 

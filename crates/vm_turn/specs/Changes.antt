@@ -97,11 +97,14 @@ Ends s pick e (RanOut kind) t =
 abbrev pub RunsOut : State → ℕ → Quota → State → Type 0
 RunsOut s pick kind t =
     ((s.out_of ≡ Some kind) × (t ≡ s))
-    ⊎ ((s.out_of ≡ None) × (p : Picked s pick) × (short_of p ≡ Some kind) × (p.lane.own.sponsor ≡ root) × (t ≡ record (exhausted s (place p) p.lane kind) { out_of = Some kind }))
+    ⊎ ((s.out_of ≡ None) × (p : Picked s pick) × (short_of p ≡ Some kind) × (p.lane.own.sponsor ≡ root)
+    × (t ≡ record (exhausted s (place p) p.lane kind) { out_of = Some kind }))
 
 -- what follows with that answer
 abbrev pub Changes : State → ℕ → Answer → State → Type 0
-Changes s pick Dispatched t = (m : Message) × (dispatchable s ≡ Some m) × (device_of (sent_at s.store m.event).target ≡ None) × (t ≡ begin s m.number (sent_at s.store m.event))
+Changes s pick Dispatched t =
+    (m : Message) × (dispatchable s ≡ Some m) × (device_of (sent_at s.store m.event).target ≡ None)
+    × (t ≡ begin s m.number (sent_at s.store m.event))
 Changes s pick Stepped t = GoesOn s pick t
 Changes s pick (Finished e) t = Ends s pick e e.outcome t
 Changes s pick Rest t = (t ≡ s) × (s.flight ≡ []) × (dispatchable s ≡ None)

@@ -15,4 +15,6 @@ CodeStaysInImages = (image : RomImage) (grant : Amounts) (lanes : ℕ) (picks : 
 
 -- after every run there are as many lanes as before, and no more events in flight than lanes
 abbrev pub FlightsFitLanes : Type 0
-FlightsFitLanes = (image : RomImage) (grant : Amounts) (lanes : ℕ) (picks : List ℕ) → ((run image grant lanes picks).lanes ≡ lanes) × (length (run image grant lanes picks).flight ≤ lanes)
+FlightsFitLanes =
+    (image : RomImage) (grant : Amounts) (lanes : ℕ) (picks : List ℕ)
+    → ((run image grant lanes picks).lanes ≡ lanes) × (length (run image grant lanes picks).flight ≤ lanes)

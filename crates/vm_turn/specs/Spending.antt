@@ -40,7 +40,8 @@ charged_spending before l r None = with_charge before l.number r.charge
 -- the event that was picked takes its next instruction
 abbrev pub step_spending : Spending → State → Option Lane → Spending
 step_spending before s None = before
-step_spending before s (Some l) = charged_spending before l (lane_row s.store s.sheet l) (short (account s.sheet l.own.sponsor) (lane_row s.store s.sheet l).charge)
+step_spending before s (Some l) =
+    let row = lane_row s.store s.sheet l in charged_spending before l row (short (account s.sheet l.own.sponsor) row.charge)
 
 -- an event begins with nothing spent, and a device's message ends so
 abbrev pub go_spending : Spending → State → ℕ → Option Message → Spending
@@ -78,4 +79,5 @@ abbrev pub EventsSpendWhatIsPaid : Type 0
 EventsSpendWhatIsPaid =
     (image : RomImage) (grant : Amounts) (lanes : ℕ) (picks : List ℕ) (kind : Quota)
     → spent_by_all kind (run image grant lanes picks).sheet
-    ≡ spent_by_ended kind (spent_in_run image grant lanes picks) (run image grant lanes picks).journal + spent_in_flight kind (spent_in_run image grant lanes picks) (run image grant lanes picks).flight
+    ≡ spent_by_ended kind (spent_in_run image grant lanes picks) (run image grant lanes picks).journal
+    + spent_in_flight kind (spent_in_run image grant lanes picks) (run image grant lanes picks).flight

@@ -1,4 +1,4 @@
-use Rattle.hum_front.proofs.Slices.{names_stand}
+use Rattle.hum_front.proofs.NamePlaces.{names_stand}
 use Rattle.hum_front.proofs.laws.names_stand_at_their_places.Goals as goal
 
 pub returns : goal.returns

@@ -1,6 +1,6 @@
 use Rattle.std.proofs.Common.{◌≤◌, length, subst, sym}
 use Rattle.hum_emit.specs.Shaping.{kind_of}
-use Rattle.hum_emit.proofs.Scopes.{truncated}
+use Rattle.hum_core.proofs.NewestItems.{truncated}
 use Rattle.hum_emit.proofs.shape.Shape.truncate.Goals as goal
 
 pub returns : goal.returns

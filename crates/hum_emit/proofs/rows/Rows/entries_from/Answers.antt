@@ -1,8 +1,8 @@
 use Rattle.std.proofs.Common.{◌≡◌, ap, arith}
 use Rattle.hum_emit.specs.Rowing.{shape_at}
 use Rattle.hum_emit.proofs.Tops.{entry_more, no_entry, past_rows}
-use Rattle.hum_emit.proofs.rows.Rows.from.Goals as goal
-use Rattle.hum_emit.proofs.rows.Rows.from.Goals.{then-loop-next-test+else-next-len, else-loop-next-test}
+use Rattle.hum_emit.proofs.rows.Rows.entries_from.Goals as goal
+use Rattle.hum_emit.proofs.rows.Rows.entries_from.Goals.{then-loop-next-test+else-next-len, else-loop-next-test}
 
 pub returns-then-row-next : goal.returns-then-row-next
 returns-then-row-next c =

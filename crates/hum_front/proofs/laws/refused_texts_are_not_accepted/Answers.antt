@@ -1,5 +1,5 @@
 use Rattle.hum_front.proofs.Programs.{never_both}
-use Rattle.hum_front.proofs.laws.refused_texts_are_no_programs.Goals as goal
+use Rattle.hum_front.proofs.laws.refused_texts_are_not_accepted.Goals as goal
 
 pub returns : goal.returns
 returns c = never_both
