@@ -1,5 +1,5 @@
 -- What an event comes to, by what its delivery decides.
-use Rattle.std.specs.Prelude.{◌≡◌, ℕ, suc, ◌*◌, ◌≤◌, ◌⊎◌, pos, length, List, Some, slice_get}
+use Rattle.std.specs.Prelude.{◌≡◌, ℕ, ◌≤◌, ◌⊎◌, pos, length, List, Some, slice_get}
 use Rattle.cap_words.specs.Words.{W, Fix}
 use Rattle.cap_words.specs.Seen.{Seen}
 use Rattle.instr_table.specs.Types.{AnActor, look_up}
@@ -10,6 +10,7 @@ use Rattle.instr_table.specs.Lane.{Lane, begun, lane_row}
 use Rattle.hum_meaning.specs.Action as action
 use Rattle.hum_meaning.specs.Action.{Gives, Fails, Undecided}
 use Rattle.hum_meaning.specs.Laws.{IsDecided}
+use Rattle.hum_core.specs.Bound.{most_for}
 use Rattle.hum_core.specs.TestLists.{Tests}
 use Rattle.hum_code.specs.WordLists.{Distinct}
 use Rattle.hum_code.specs.Comes.{roll_with, NamesOnce}
@@ -30,8 +31,8 @@ sends_of Undecided = 0
 
 -- at most the cycles and quads of a delivery that s steps decide
 pub record IsWithin (s : ℕ) (n : Spent) : Type 0 where
-  pub cycles : n.cycles ≤ 64 * suc s
-  pub quads : n.quads ≤ 64 * suc s
+  pub cycles : n.cycles ≤ most_for s
+  pub quads : n.quads ≤ most_for s
 
 -- no word is there twice, and each is shown as an actor
 pub record AreActors (t : Seen) (ws : List W) : Type 0 where

@@ -58,7 +58,7 @@ event_in {boot} {cells} {lay} program m rom self self_is actor_is = record {
 
 -- The event does what the program means. Where its actor has the code that applies a behaviour, its state stands for one and its message for
 -- a value, it follows the delivery of the value to the behaviour. Where it begins at the boot word, with the devices in its actor's state, it
--- follows a delivery to the file, whatever its message stands for.
+-- follows a delivery to the first actor's behaviour, which answers every message with the whole file.
 pub record FollowsProgram (boot : W) (em : Emission) : Type 0 where
   pub events : (behaviour v : Value Tests) → em.setting.own.code ≡ em.layout.apply
       → Stands em.layout em.setting.base em.setting.roll em.setting.own.state behaviour

@@ -78,8 +78,8 @@ pub record EffectsStand (lay : Layout) (roll : List W) (s : Seen) (f : action.Ef
   pub sent : Each (SentStands lay s (roll_with roll e)) f.sent e.sent
   pub next : Both (NextStands lay s (roll_with roll e)) f.next e.next
 
--- what the image has of symbols and of the built-in functions: a name is a run, and has one symbol cell at most, with the list of its bytes;
--- a built-in function's cell has its code, and its number in place of an environment
+-- What the image has of symbols and of the built-in functions. The name of a symbol is a run; the layout names one cell of it, which has the
+-- list of its bytes, and is that of no other name. A built-in function's cell has its code, and its number in place of an environment.
 pub record DataStand (lay : Layout) (s : Seen) : Type 0 where
   pub runs : (name : List ℕ) (w : W) → lay.symbol name ≡ Some w → is_run name ≡ true
   pub symbols : (name : List ℕ) (w : W) → lay.symbol name ≡ Some w

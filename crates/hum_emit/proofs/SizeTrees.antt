@@ -18,7 +18,8 @@ use Rattle.hum_emit.specs.declared.instruction.Field.TheVariants.{Constant}
 use Rattle.hum_emit.specs.Emitted.{Piece, ◌▷◌, push, dup, drop, pair, nth, eq, choose, text, constant}
 use Rattle.hum_emit.specs.Runtime.{fail_place}
 use Rattle.hum_emit.specs.Templates.{OfExpr, OfTest, OfArm, OfBranch, function, block, variable, items, pairs, branches, tests, restore, later_arms, arms, of_expr, of_test, of_arm, of_branch, expr_code, test_code, after_all, member_unit}
-use Rattle.hum_emit.proofs.Growths.{arm_code, branch_code, coded_expr, coded_test, coded_arm, coded_branch}
+use Rattle.hum_emit.specs.Emitting.{arm_code, branch_code}
+use Rattle.hum_emit.proofs.Growths.{coded_expr, coded_test, coded_arm, coded_branch}
 use Rattle.hum_emit.proofs.Size.{Adds, a_one, a_choose, a_calls, a_nothing, a_both, a_miss, a_fits, a_field, text_makes, constant_makes}
 
 function_adds : (u : ℕ) → Adds 0 3 (function u)
