@@ -2,7 +2,7 @@
 // go on with, and gives the number of its own first one. There are fewer than 2^32 instructions, and so many data: one more is refused as
 // want of memory.
 
-ghost use Rattle.std.specs.Prelude.{◌≡◌, ◌≤◌, ℕ, pos, negsuc, ◌∷◌, [], length, take, IfOk, OnOk};
+ghost use Rattle.std.specs.Prelude.{◌≡◌, ◌≤◌, pos, negsuc, ◌∷◌, [], length, take, IfOk, OnOk};
 ghost use Rattle.hum_code.specs.Layout.{minus};
 ghost use Rattle.hum_emit.specs.declared.instruction.Field.TheVariants as field;
 ghost use Rattle.hum_emit.specs.Emitted as spec;
@@ -184,7 +184,7 @@ impl<'a> Emitter<'a> {
 
     /// Goes where the value on top says.
     pub fn jump(&mut self) -> Result<u32, NoMemory>
-        ensures { IfOk result (λ at. (k : ℕ) → (emitted self.new, at) ≡ spec.jump k (emitted self.old)) }
+        ensures { IfOk result (λ at. (emitted self.new, at) ≡ spec.jump 0 (emitted self.old)) }
     {
         self.put(Instruction {
             operation: operations::JUMP,
