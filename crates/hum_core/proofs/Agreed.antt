@@ -17,7 +17,8 @@ use Rattle.hum_core.specs.Alike.{Scope, scope_of, Both, Reading, Alike, AlikeEnv
 use Rattle.hum_core.specs.Reading.{reading_to}
 use Rattle.hum_core.specs.Agreement.{names_of, WrittenPat, NumberedPat, PatternNodeAs, resolving, Resolution}
 use Rattle.hum_core.proofs.Following.{ActsAs, Bound, marks_of, Follows, Sound}
-use Rattle.hum_core.proofs.Wholly.{each_all, expr_all, statements_all, abstraction_all}
+use Rattle.hum_core.proofs.Simulates.{arms_as}
+use Rattle.hum_core.proofs.Wholly.{each_all, arms_all, expr_all, statements_all, abstraction_all}
 use Rattle.hum_core.proofs.Names.{names_of_items, names_here, names_out}
 use Rattle.hum_core.proofs.Patterns.{renamed, any_as, bind_mark_as, atom_as, value_as, marks_of_items, tuple_as}
 use Rattle.hum_core.proofs.Looked.{look_as}
@@ -70,10 +71,11 @@ module _ (units : List CoreUnit) where
 
   pub resolution_sound : Sound R humus (core_language units)
   resolution_sound = record {
-    expr = λ scope e d h. expr_all humus (core_language units) resolving scope (humus.expr e) ((core_language units).expr d) (λ n. h (suc n));
+    expr = λ scope e d h. expr_all humus (core_language units) resolving (arms_all humus (core_language units) resolving) scope (humus.expr e) ((core_language units).expr d) (λ n. h (suc n));
     body = λ scope b c h. statements_all humus (core_language units) resolving scope (humus.body b) ((core_language units).body c) (λ n. h (suc n));
     abstraction = λ scope f g h. abstraction_all humus (core_language units) resolving scope (humus.abstraction f) ((core_language units).abstraction g) (λ n. h (suc n));
     look = λ env env' x y a e. look_as R x y a e;
+    choosing = λ b m m' h env env' a x y v w i c. arms_as R b m m' h env env' a x y v w i c;
     matching = λ self base b all n n' le le' p q v w env env' es ds a c i j.
         renamed R (suc b) _ _ _ _ (ap (λ z. z ++ marks_of R es) (sym (names_out p)))
         (node_as b _ _ (all n n' le le') env env' a (out-Pat p) (out-CorePat q) (pattern_all (scope_of env) _ _ (λ n. c (suc n))) v w es ds i j);

@@ -28,7 +28,7 @@ module _ {L K : Parts} (r : Reading L K) where
     pub exec : (c : L.Body) (d : K.Body) (env : Env L) (env' : Env K) → AlikeEnv r env env' → r.BodyAs (scope_of env) c d
         → ActsAs b (λ x y. Unit {0}) (m.exec c env) (m'.exec d env')
 
--- What a reading has to keep, one node at a time. Of matching it is asked whatever the depths are, as long as they are enough for b steps.
+-- What a reading has to keep, one node at a time. Of matching and choices it is asked whatever the depths are, as long as they are enough for b steps.
 pub record Sound {L K : Parts} (r : Reading L K) (l : Language L) (k : Language K) : Type 0 where
   pub expr : (scope : Scope L) (e : L.Expr) (d : K.Expr) → r.ExprAs scope e d → ExprNodeAs r scope (l.expr e) (k.expr d)
   pub body : (scope : Scope L) (b : L.Body) (c : K.Body) → r.BodyAs scope b c → StatementsAs r scope (l.body b) (k.body c)
@@ -36,6 +36,9 @@ pub record Sound {L K : Parts} (r : Reading L K) (l : Language L) (k : Language 
       → Both (ArmAs r scope) (l.abstraction f) (k.abstraction g)
   pub look : (env : Env L) (env' : Env K) (x : L.Reference) (y : K.Reference) → AlikeEnv r env env' → r.ReferenceAs (scope_of env) x y
       → Both (Alike r) (l.look env x) (k.look env' y)
+  pub choosing : (b : ℕ) (m : Meaning L) (m' : Meaning K) → Follows r b m m' → (env : Env L) (env' : Env K) → AlikeEnv r env env'
+      → (x : L.Choice) (y : K.Choice) (v : Value L) (w : Value K) → Alike r v w → r.ChoiceAs (scope_of env) x y
+      → ActsAs r b (Alike r) (l.choose_node m x v env) (k.choose_node m' y w env')
   pub matching : (self base b : ℕ) → ((n n' : ℕ) → b ≤ n → b ≤ n' → Follows r b (level l self base n) (level k self base n')) → (n n' : ℕ)
       → b ≤ n → b ≤ n'
       → (p : L.Pattern) (q : K.Pattern) (v : Value L) (w : Value K) (env : Env L) (env' : Env K) (es : List (Entry L)) (ds : List (Entry K))

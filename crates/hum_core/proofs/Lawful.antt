@@ -17,7 +17,7 @@ use Rattle.hum_core.specs.declared.tested.Test.TheOpen as layer
 use Rattle.hum_meaning.specs.Value.{Value, Plain, Env, Entry}
 use Rattle.hum_meaning.specs.Language.{Meaning}
 use Rattle.hum_meaning.proofs.Agrees.{Agrees, pure_agrees, bind_agrees, step_agrees, step_keeps}
-use Rattle.hum_meaning.proofs.Law.{Stands, Lawful, if_matched_agrees, if_pair_agrees, equals_agrees}
+use Rattle.hum_meaning.proofs.Law.{Stands, Lawful, arms_agrees, if_matched_agrees, if_pair_agrees, equals_agrees}
 use Rattle.hum_meaning.proofs.PatternLaw.{MatchesAgree, any_agrees, bind_mark_agrees, atom_agrees, value_agrees, tuple_agrees}
 use Rattle.hum_core.specs.Numbered.{atom_of}
 use Rattle.hum_core.specs.CoreTrees.{Core, core_match, core_language}
@@ -35,7 +35,7 @@ module _ (d : ℕ) (m m' : Meaning Core) (h : Stands (pred d) m m') where
   match_agrees (core.CorePat::Tuple ps) = tuple_agrees d m m' h ps
 
 pub core_lawful : (units : List CoreUnit) → Lawful (core_language units)
-core_lawful units = record { matching = λ d m m' h p v env es. match_agrees d m m' h (out-CorePat p) v env es }
+core_lawful units = record { matching = λ d m m' h p v env es. match_agrees d m m' h (out-CorePat p) v env es; choosing = λ d m m' h x v env. arms_agrees d m m' h x v env }
 
 -- ---- patterns as tests
 
@@ -63,4 +63,4 @@ module _ (d : ℕ) (m m' : Meaning Tests) (h : Stands (pred d) m m') where
   all_tests_agree (t ∷ ts) (v ∷ vs) env es = step_agrees d (test_agrees (pred d) m m' h (out-Test t) v vs env es _ _ (λ vs es. tests_agree (pred d) m m' h ts vs env es))
 
 pub tests_lawful : (units : List TestUnit) → Lawful (tests_language units)
-tests_lawful units = record { matching = λ d m m' h p v env es. all_tests_agree d m m' h p (v ∷ []) env es }
+tests_lawful units = record { matching = λ d m m' h p v env es. all_tests_agree d m m' h p (v ∷ []) env es; choosing = λ d m m' h x v env. arms_agrees d m m' h x v env }

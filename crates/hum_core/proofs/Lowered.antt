@@ -22,8 +22,8 @@ use Rattle.hum_core.specs.Agreement.{NumberedPat}
 use Rattle.hum_core.specs.Lowering.{TestNode, first_value, other_values, Marks, marks_of as marks, SameAs, ItemsAs, TestsAs, lowering, Lowered}
 use Rattle.hum_core.proofs.Following.{ActsAs, Bound, marks_of, Follows, Sound}
 use Rattle.hum_core.proofs.Acts.{step_as, bind_as', pure_as, fewer}
-use Rattle.hum_core.proofs.Simulates.{if_matched_as}
-use Rattle.hum_core.proofs.Wholly.{expr_all, statements_all, abstraction_all}
+use Rattle.hum_core.proofs.Simulates.{if_matched_as, arms_as}
+use Rattle.hum_core.proofs.Wholly.{arms_all, expr_all, statements_all, abstraction_all}
 use Rattle.hum_core.proofs.Patterns.{renamed, equals_as, if_pair_as, any_as, bind_mark_as}
 use Rattle.hum_core.proofs.Marks.{marks_of_items, marks_here, marks_out}
 use Rattle.hum_core.proofs.Splits.{Takes, split_takes, split_joins, on, tests_split}
@@ -175,10 +175,11 @@ module _ (units : List CoreUnit) (tested : List TestUnit) where
 
   pub lowering_sound : Sound R l k
   lowering_sound = record {
-    expr = λ scope e d h. expr_all l k lowering scope (l.expr e) (k.expr d) (λ n. h (suc n));
+    expr = λ scope e d h. expr_all l k lowering (arms_all l k lowering) scope (l.expr e) (k.expr d) (λ n. h (suc n));
     body = λ scope b c h. statements_all l k lowering scope (l.body b) (k.body c) (λ n. h (suc n));
     abstraction = λ scope f g h. abstraction_all l k lowering scope (l.abstraction f) (k.abstraction g) (λ n. h (suc n));
     look = λ env env' x y a e. slot_as R x y a e;
+    choosing = λ b m m' h env env' a x y v w i c. arms_as R b m m' h env env' a x y v w i c;
     matching = λ self base b all n n' le le' p q v w env env' es ds a c i j.
         renamed R (suc b) _ _ _ _ (ap (λ z. z ++ marks_of R es) (sym (marks_out p)))
         (node_as_tests self base b all n n' le le' env env' a (out-CorePat p) q (tests_all (scope_of env) _ q (λ n. c (suc n))) v w es ds i j);

@@ -103,7 +103,7 @@ module _ {L K : Parts} (r : Reading L K) (b' : ℕ) (m : Meaning L) (m' : Meanin
     tuple_as (e ∷ []) (d ∷ g ∷ others) c = absurd c.1
     tuple_as (e ∷ f ∷ more) (d ∷ []) c = absurd c.1
 
-    arms_as : (more : List (L.Pattern × L.Expr)) (others : List (K.Pattern × K.Expr)) (v : Value L) (w : Value K) → Alike r v w
+    pub arms_as : (more : List (L.Pattern × L.Expr)) (others : List (K.Pattern × K.Expr)) (v : Value L) (w : Value K) → Alike r v w
         → Each (ArmAs r (scope_of env)) more others → ActsAs r b' (Alike r) (arms m more v env) (arms m' others w env')
     arms_as [] [] v w i c = fail_as r b' (Alike r) no_match
     arms_as (f ∷ more) (g ∷ others) v w i c = behind_as env env' a f g c.0 v w i _ _ (arms_as more others v w i c.1)
@@ -139,7 +139,7 @@ module _ {L K : Parts} (r : Reading L K) (l : Language L) (k : Language K) (soun
     eval_node_as (Call f x) (Call g y) c = bind_as' r b' _ _ _ _ (λ v w i. bind_as' r b' _ _ _ _ (λ p q j. apply_as i j) _ _ (h.eval x y env env' a c.1)) _ _ (h.eval f g env env' a c.0)
     eval_node_as (Tuple es) (Tuple ds) c = tuple_as r b' m m' h env env' a es ds c
     eval_node_as (New e) (New d) c = bind_as' r b' _ _ _ _ (λ v w i. bind_as' r b' _ _ _ _ (λ x y j. pure_as r b' (Alike r) _ _ (actor_at x y j)) _ _ (create_as r b' base v w i)) _ _ (h.eval e d env env' a c)
-    eval_node_as (Case e more) (Case d others) c = bind_as' r b' _ _ _ _ (λ v w i. arms_as r b' m m' h env env' a more others v w i c.1) _ _ (h.eval e d env env' a c.0)
+    eval_node_as (Case e more) (Case d others) c = bind_as' r b' _ _ _ _ (λ v w i. sound.choosing b' m m' h env env' a more others v w i c.1) _ _ (h.eval e d env env' a c.0)
     eval_node_as (If more b) (If others c') c = branches_as r b' m m' h env env' a more others b c' c.0 c.1
     eval_node_as _ _ c = absurd c
 

@@ -3,6 +3,7 @@ use Rattle.std.proofs.Common.{◌≡◌, ap, subst, ◌∙◌, ℕ, ◌+◌, ◌
 use Rattle.std.specs.Prelude.{sum}
 use Rattle.hum_core.specs.declared.slot.Slot.{Slot}
 use Rattle.hum_core.specs.declared.slot.Const.{Const}
+use Rattle.hum_core.specs.declared.slot.Const.TheVariants as const
 use Rattle.hum_core.specs.declared.resolved.CoreStmt.{CoreStmt}
 use Rattle.hum_core.specs.declared.resolved.CoreStmt.TheVariants as stmt
 use Rattle.hum_core.specs.declared.resolved.CoreExpr.{CoreExpr}
@@ -180,7 +181,15 @@ of_pat_tuple ps =
     let is = ap size_of_tests (pat_of (core.CorePat::Tuple ps) _ (pat.rolls-Tuple ps)) in
     omega (arith, is, tuple_tests ps)
 
--- ---- statements
+-- ---- none is without size
+
+pub some_const : (c : Const) → 1 ≤ const_size c
+some_const const.Undef = omega arith
+some_const const.Nil = omega arith
+some_const const.True = omega arith
+some_const const.False = omega arith
+some_const (const.Num n) = omega arith
+some_const (const.Sym name) = omega arith
 
 pub some_stmt : (s : CoreStmt) → 1 ≤ stmt_becomes s
 some_stmt (stmt.Let p e) = omega arith

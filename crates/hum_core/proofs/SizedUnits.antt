@@ -96,17 +96,9 @@ stmt_by x is le h = part_fits le (subst (StmtSized _) (sym is) h)
 
 const_case : (c : Const) (x : Expr) → in_expr x ≡ constant c → tree.size_of_expr x ≡ const_size c → E x
 const_case c x is size =
-    let some = const_some c in
+    let some = node.some_const c in
     expr_by x is (omega (arith, size, some))
     (plain_sized (above expr_becomes) (1 + const_size c) (λ scope. expr.Is c) (λ scope. let z = node.of_const c in omega (arith, z)))
-  where
-    const_some : (c : Const) → 1 ≤ const_size c
-    const_some const.Undef = omega arith
-    const_some const.Nil = omega arith
-    const_some const.True = omega arith
-    const_some const.False = omega arith
-    const_some (const.Num n) = omega arith
-    const_some (const.Sym name) = omega arith
 
 -- an expression that holds no other
 leaf_case : (f : Scope → CoreExpr) (x : Expr) (n : ℕ) → in_expr x ≡ other_expr (plain f) → ((scope : Scope) → expr_becomes (f scope) ≡ n)
@@ -193,8 +185,10 @@ leaf_pat_case q x y n is part size le =
     pat_by x is le
     (subst (PartSized (above pat_becomes) (1 + n)) (sym part) (plain_sized (above pat_becomes) (1 + n) (λ scope. q) (λ scope. omega (arith, size))))
 
-const_pat_case : (c : Const) (x : Pat) → in_pat x ≡ constant_pat c → 1 + const_size c ≤ 3 * tree.size_of_pat x → P x
-const_pat_case c x is le = leaf_pat_case (pat.Is c) x (constant_pat c) (const_size c) is refl (node.of_pat_const c) le
+const_pat_case : (c : Const) (x : Pat) → in_pat x ≡ constant_pat c → tree.size_of_pat x ≡ const_size c → P x
+const_pat_case c x is size =
+    let some = node.some_const c in
+    leaf_pat_case (pat.Is c) x (constant_pat c) (const_size c) is refl (node.of_pat_const c) (omega (arith, size, some))
 
 value_case : (a : Expr) → E a → P (p.Value a)
 value_case a h =
@@ -287,12 +281,12 @@ cases = record {
   at_if_else = if_else_case;
   at_any = leaf_pat_case pat.Any p.Any _ 1 (fold_of.fold_any made) refl node.of_any (let size = fold_of.fold_any sized in omega (arith, size));
   at_bind = λ t. leaf_pat_case pat.Bind (p.Bind t) _ 1 (fold_of.fold_bind made t) refl node.of_bind (let size = fold_of.fold_bind sized t in omega (arith, size));
-  at_pat_undef = const_pat_case const.Undef p.Undef (fold_of.fold_pat_undef made) (let size = fold_of.fold_pat_undef sized in omega (arith, size));
-  at_pat_nil = const_pat_case const.Nil p.Nil (fold_of.fold_pat_nil made) (let size = fold_of.fold_pat_nil sized in omega (arith, size));
-  at_pat_true = const_pat_case const.True p.True (fold_of.fold_pat_true made) (let size = fold_of.fold_pat_true sized in omega (arith, size));
-  at_pat_false = const_pat_case const.False p.False (fold_of.fold_pat_false made) (let size = fold_of.fold_pat_false sized in omega (arith, size));
-  at_pat_num = λ z. const_pat_case (const.Num z) (p.Num z) (fold_of.fold_pat_num made z) (let size = fold_of.fold_pat_num sized z in omega (arith, size));
-  at_pat_sym = λ t. const_pat_case (const.Sym t) (p.Sym t) (fold_of.fold_pat_sym made t) (let size = fold_of.fold_pat_sym sized t in omega (arith, size));
+  at_pat_undef = const_pat_case const.Undef p.Undef (fold_of.fold_pat_undef made) (fold_of.fold_pat_undef sized);
+  at_pat_nil = const_pat_case const.Nil p.Nil (fold_of.fold_pat_nil made) (fold_of.fold_pat_nil sized);
+  at_pat_true = const_pat_case const.True p.True (fold_of.fold_pat_true made) (fold_of.fold_pat_true sized);
+  at_pat_false = const_pat_case const.False p.False (fold_of.fold_pat_false made) (fold_of.fold_pat_false sized);
+  at_pat_num = λ z. const_pat_case (const.Num z) (p.Num z) (fold_of.fold_pat_num made z) (fold_of.fold_pat_num sized z);
+  at_pat_sym = λ t. const_pat_case (const.Sym t) (p.Sym t) (fold_of.fold_pat_sym made t) (fold_of.fold_pat_sym sized t);
   at_value = value_case;
   at_pat_tuple = pat_tuple_case;
   at_let = let_case;

@@ -34,18 +34,28 @@ module _ {L K : Parts} (l : Language L) (k : Language K) (link : Linking L K) wh
       → BranchAs all scope a b
   branch_all scope a b h = (λ n. (h n).0, λ n. (h n).1)
 
-  pub expr_all : (scope : Scope L) (e : ExprNode L) (d : ExprNode K) → ((n : ℕ) → ExprNodeAs (to n) scope e d) → ExprNodeAs all scope e d
-  expr_all scope (Is v) (Is w) h = h 0
-  expr_all scope (Var x) (Var y) h = h 0
-  expr_all scope Myself Myself h = tt
-  expr_all scope (Abs f) (Abs g) h = h
-  expr_all scope (BlockOf b) (BlockOf c) h = h
-  expr_all scope (Call f a) (Call g b) h = (λ n. (h n).0, λ n. (h n).1)
-  expr_all scope (Tuple es) (Tuple ds) h = each_all _ _ (λ e d i. i) es ds h
-  expr_all scope (New e) (New d) h = h
-  expr_all scope (Case e more) (Case d others) h = (λ n. (h n).0, each_all (λ n. ArmAs (to n) scope) (ArmAs all scope) (arm_all scope) more others (λ n. (h n).1))
-  expr_all scope (If more b) (If others c) h = (each_all (λ n. BranchAs (to n) scope) (BranchAs all scope) (branch_all scope) more others (λ n. (h n).0), λ n. (h n).1)
-  expr_all scope _ _ h = absurd (h 0)
+  -- choices by arms
+  pub arms_all : (scope : Scope L) (xs : List (L.Pattern × L.Expr)) (ys : List (K.Pattern × K.Expr)) → ((n : ℕ) → Each (ArmAs (to n) scope) xs ys)
+      → Each (ArmAs all scope) xs ys
+  arms_all scope xs ys h = each_all (λ n. ArmAs (to n) scope) (ArmAs all scope) (arm_all scope) xs ys h
+
+  -- where choices are kept
+  abbrev KeepsChoices : Type 0
+  KeepsChoices = (scope : Scope L) (x : L.Choice) (y : K.Choice) → ((n : ℕ) → (to n).ChoiceAs scope x y) → all.ChoiceAs scope x y
+
+  pub expr_all : KeepsChoices → (scope : Scope L) (e : ExprNode L) (d : ExprNode K) → ((n : ℕ) → ExprNodeAs (to n) scope e d)
+      → ExprNodeAs all scope e d
+  expr_all choices scope (Is v) (Is w) h = h 0
+  expr_all choices scope (Var x) (Var y) h = h 0
+  expr_all choices scope Myself Myself h = tt
+  expr_all choices scope (Abs f) (Abs g) h = h
+  expr_all choices scope (BlockOf b) (BlockOf c) h = h
+  expr_all choices scope (Call f a) (Call g b) h = (λ n. (h n).0, λ n. (h n).1)
+  expr_all choices scope (Tuple es) (Tuple ds) h = each_all _ _ (λ e d i. i) es ds h
+  expr_all choices scope (New e) (New d) h = h
+  expr_all choices scope (Case e more) (Case d others) h = (λ n. (h n).0, choices scope more others (λ n. (h n).1))
+  expr_all choices scope (If more b) (If others c) h = (each_all (λ n. BranchAs (to n) scope) (BranchAs all scope) (branch_all scope) more others (λ n. (h n).0), λ n. (h n).1)
+  expr_all choices scope _ _ h = absurd (h 0)
 
   pub statements_all : (scope : Scope L) (ss : List (StmtNode L)) (ts : List (StmtNode K)) → ((n : ℕ) → StatementsAs (to n) scope ss ts)
       → StatementsAs all scope ss ts

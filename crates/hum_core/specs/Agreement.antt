@@ -21,7 +21,7 @@ use Rattle.hum_meaning.specs.Named.{Name, Named, written}
 use Rattle.hum_meaning.specs.Written.{humus}
 use Rattle.hum_core.specs.CoreTrees.{Core, core_language}
 use Rattle.hum_core.specs.Alike.{Marked, One, Many, Scope, Each, Reading}
-use Rattle.hum_core.specs.Reading.{Linking, whole_reading}
+use Rattle.hum_core.specs.Reading.{Linking, ArmsAs, whole_reading}
 
 -- ---- names
 
@@ -96,6 +96,7 @@ resolving = record {
   ReferenceAs = λ scope x slot. slot_of scope x ≡ Some slot;
   marks = names_of;
   PatternNodeAs = λ r scope p q. PatternNodeAs r scope (out-Pat p) (out-CorePat q);
+  ChoiceAs = ArmsAs (Named written) Core names_of;
 }
 
 -- ---- whole trees

@@ -47,6 +47,7 @@ with_marks (m ∷ ms) scope = One m ∷ with_marks ms scope
 pub record Reading (L K : Parts) : Type 1 where
   pub ExprAs : Scope L → L.Expr → K.Expr → Type 0
   pub PatternAs : Scope L → L.Pattern → K.Pattern → Type 0
+  pub ChoiceAs : Scope L → L.Choice → K.Choice → Type 0
   pub BodyAs : Scope L → L.Body → K.Body → Type 0
   pub AbstractionAs : Scope L → L.Abstraction → K.Abstraction → Type 0
   pub ReferenceAs : Scope L → L.Reference → K.Reference → Type 0
@@ -79,7 +80,7 @@ module _ {L K : Parts} (r : Reading L K) where
   ExprNodeAs scope (Call f a) (Call g b) = r.ExprAs scope f g × r.ExprAs scope a b
   ExprNodeAs scope (Tuple es) (Tuple ds) = Each (r.ExprAs scope) es ds
   ExprNodeAs scope (New e) (New d) = r.ExprAs scope e d
-  ExprNodeAs scope (Case e more) (Case d others) = r.ExprAs scope e d × Each (ArmAs scope) more others
+  ExprNodeAs scope (Case e x) (Case d y) = r.ExprAs scope e d × r.ChoiceAs scope x y
   ExprNodeAs scope (If more b) (If others c) = Each (BranchAs scope) more others × r.BodyAs scope b c
   ExprNodeAs scope _ _ = ⊥
 

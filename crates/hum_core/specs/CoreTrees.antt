@@ -14,6 +14,7 @@ use Rattle.hum_core.specs.declared.resolved.CoreExpr.TheOpen.{CoreExpr-F, CorePa
 use Rattle.hum_core.specs.declared.resolved.CoreExpr.TheOpen as layer
 use Rattle.hum_meaning.specs.Value.{Parts, Plain, text_value}
 use Rattle.hum_meaning.specs.Language.{ExprNode, Is, Var, Myself, Abs, BlockOf, Call, Tuple, New, Case, If, StmtNode, Let, Functions, Defined, Send, Create, Become, Throw, Do, Evaluator, Matcher, Language}
+use Rattle.hum_meaning.specs.Eval.{arms}
 use Rattle.hum_meaning.specs.Pattern.{Match, match_any, match_bind, match_atom, match_value, match_tuple}
 use Rattle.hum_core.specs.Numbered.{Code, Opening, Of, Numbered, atom_of, members, at_slot}
 
@@ -81,4 +82,5 @@ core_language units = record {
   abstraction = core_abstraction units;
   look = at_slot;
   match_node = λ eval matches p. core_match eval matches (out-CorePat p);
+  choose_node = arms;
 }

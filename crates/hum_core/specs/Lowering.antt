@@ -13,7 +13,7 @@ use Rattle.hum_core.specs.declared.tested.TestBranch.{TestBranch}
 use Rattle.hum_core.specs.declared.tested.Test.TheOpen.{Test-F}
 use Rattle.hum_core.specs.declared.tested.Test.TheOpen as test
 use Rattle.hum_core.specs.Alike.{Scope, Reading}
-use Rattle.hum_core.specs.Reading.{Linking, whole_reading}
+use Rattle.hum_core.specs.Reading.{Linking, ArmsAs, whole_reading}
 use Rattle.hum_core.specs.CoreTrees.{Core, core_language}
 use Rattle.hum_core.specs.TestLists.{Tests, tests_language}
 use Rattle.hum_core.specs.Agreement.{joined, NumberedPat}
@@ -79,6 +79,7 @@ lowering = record {
   ReferenceAs = λ scope x y. x ≡ y;
   marks = marks_of;
   PatternNodeAs = λ r scope p ts. TestsAs r scope (out-CorePat p) ts;
+  ChoiceAs = ArmsAs Core Tests marks_of;
 }
 
 -- which trees of the first units the second ones stand for

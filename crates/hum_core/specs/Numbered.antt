@@ -10,9 +10,17 @@ pub data Code : Type 0 where
   Opening : Code
   Of : ℕ → Code
 
--- bindings bear nothing, and a body is the number of its block's unit
+-- bindings bear nothing, a choice is by arms, and a body is the number of its block's unit
 abbrev pub Numbered : (Expr Pattern : Type 0) → Parts
-Numbered Expr Pattern = record { Expr = Expr; Pattern = Pattern; Body = ℕ; Abstraction = Code; Mark = Unit {0}; Reference = Slot }
+Numbered Expr Pattern = record {
+  Expr = Expr;
+  Pattern = Pattern;
+  Choice = List (Pattern × Expr);
+  Body = ℕ;
+  Abstraction = Code;
+  Mark = Unit {0};
+  Reference = Slot;
+}
 
 abbrev pub atom_of : Const → Atom
 atom_of const.Undef = Undefined

@@ -4,13 +4,20 @@ use Rattle.hum_meaning.specs.Value.{Parts, Value, Env}
 use Rattle.hum_meaning.specs.Action.{Effects}
 use Rattle.hum_meaning.specs.Language.{Language}
 use Rattle.hum_meaning.specs.Meaning.{evaluate, match, execute}
-use Rattle.hum_core.specs.Alike.{Scope, scope_of, Both, Reading, ArmAs, ExprNodeAs, StatementsAs, Alike, AlikeEnv, EntriesAs, EffectsAs, OutcomeAs}
+use Rattle.hum_core.specs.Alike.{Scope, scope_of, with_marks, Both, Each, Reading, ArmAs, ExprNodeAs, StatementsAs, Alike, AlikeEnv, EntriesAs, EffectsAs, OutcomeAs}
 
--- how patterns and references stand for one another, one node at a time, and the marks that a pattern binds
+-- how patterns, references and choices stand for one another, one node at a time, and the marks that a pattern binds; a choice is a part of
+-- its node, so it goes by the expressions and patterns that are below
 pub record Linking (L K : Parts) : Type 1 where
   pub ReferenceAs : Scope L → L.Reference → K.Reference → Type 0
   pub marks : L.Pattern → List L.Mark
   pub PatternNodeAs : Reading L K → Scope L → L.Pattern → K.Pattern → Type 0
+  pub ChoiceAs : (Scope L → L.Expr → K.Expr → Type 0) → (Scope L → L.Pattern → K.Pattern → Type 0) → Scope L → L.Choice → K.Choice → Type 0
+
+-- a choice by arms, one after the other
+abbrev pub ArmsAs : (L K : Parts) → (L.Pattern → List L.Mark) → (Scope L → L.Expr → K.Expr → Type 0) → (Scope L → L.Pattern → K.Pattern → Type 0)
+    → Scope L → List (L.Pattern × L.Expr) → List (K.Pattern × K.Expr) → Type 0
+ArmsAs L K marks ExprAs PatternAs scope = Each (λ a b. PatternAs scope a.0 b.0 × ExprAs (with_marks (marks a.0) scope) a.1 b.1)
 
 -- the relations of a reading that go by depth
 pub record Relations (L K : Parts) : Type 1 where
@@ -24,6 +31,7 @@ module _ {L K : Parts} (l : Language L) (k : Language K) (link : Linking L K) wh
   reading_by x = record {
     ExprAs = x.Exprs;
     PatternAs = x.Patterns;
+    ChoiceAs = link.ChoiceAs x.Exprs x.Patterns;
     BodyAs = x.Bodies;
     AbstractionAs = x.Abstractions;
     ReferenceAs = link.ReferenceAs;

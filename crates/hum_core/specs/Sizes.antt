@@ -1,5 +1,5 @@
--- How large a numbered program is whose patterns are tests: one for each unit, statement, expression, test, arm and branch, one for each byte
--- of a symbol and one for each code point of a text.
+-- How large a numbered program is whose patterns are tests: one for each unit, statement, expression, test, arm and branch, one for each
+-- byte of a symbol and one for each code point of a text.
 use Rattle.std.specs.Prelude.{ℕ, ◌+◌, ◌*◌, ◌≤◌, List, length, sum, map}
 use Rattle.hum_syntax.specs.declared.tree.Stmt.{Stmt}
 use Rattle.hum_syntax.specs.Sizes.{size_of}

@@ -15,7 +15,7 @@ use Rattle.hum_core.specs.declared.tested.TestBranch.{TestBranch, out-TestBranch
 use Rattle.hum_meaning.specs.Value.{Parts, Value, Plain, Env, Entry, text_value}
 use Rattle.hum_meaning.specs.Action.{Action, ◌>>=◌, ◌>>◌, pure, step}
 use Rattle.hum_meaning.specs.Language.{ExprNode, Is, Var, Myself, Abs, BlockOf, Call, Tuple, New, Case, If, StmtNode, Let, Functions, Defined, Send, Create, Become, Throw, Do, Evaluator, Matched, Language}
-use Rattle.hum_meaning.specs.Eval.{if_matched, if_pair, equals}
+use Rattle.hum_meaning.specs.Eval.{if_matched, if_pair, equals, arms}
 use Rattle.hum_core.specs.Numbered.{Code, Opening, Of, Numbered, atom_of, members, at_slot}
 
 abbrev pub Tests : Parts
@@ -101,4 +101,5 @@ tests_language units = record {
   abstraction = test_abstraction units;
   look = at_slot;
   match_node = λ eval matches ts v env es. tests_from eval ts (v ∷ []) env es;
+  choose_node = arms;
 }

@@ -1,9 +1,7 @@
 -- How many items the code of expressions and tests has.
-use Rattle.std.proofs.Common.{◌≡◌, sym, subst, ℕ, zero, suc, ◌+◌, ◌*◌, ◌-◌, ◌≤◌, pos, negsuc, List, [], ◌∷◌, map, length, Option, Some, None, arith}
+use Rattle.std.proofs.Common.{◌≡◌, sym, subst, ℕ, zero, suc, ◌+◌, ◌*◌, ◌-◌, pos, negsuc, List, [], ◌∷◌, map, length, Option, Some, None, arith}
 use Rattle.std.specs.Prelude.{sum}
 use Rattle.hum_syntax.proofs.SizedTrees.{sum-cons}
-use Rattle.hum_core.specs.declared.slot.Const.{Const}
-use Rattle.hum_core.specs.declared.slot.Const.TheVariants as const
 use Rattle.hum_core.specs.declared.tested.TestExpr.{TestExpr}
 use Rattle.hum_core.specs.declared.tested.Test.{Test}
 use Rattle.hum_core.specs.declared.tested.TestArm.{TestArm}
@@ -13,6 +11,7 @@ use Rattle.hum_core.specs.declared.tested.Test.TheOpen as layer
 use Rattle.hum_core.specs.declared.tested.Test.TheFolds as folds
 use Rattle.hum_core.specs.declared.tested.Test.TheViews.{roll-Test, roll-TestExpr, roll-TestArm, roll-TestBranch}
 use Rattle.hum_core.specs.Sizes.{const_size, expr_size, test_size, arm_size, branch_size, size_of_expr, size_of_test, size_of_tests, size_of_arm, size_of_branch}
+use Rattle.hum_core.proofs.SizedNodes.{some_const}
 use Rattle.hum_code.specs.Layout.{Shape, with_singles}
 use Rattle.hum_emit.specs.declared.instruction.Field.TheVariants.{Constant}
 use Rattle.hum_emit.specs.Emitted.{Piece, ◌▷◌, push, dup, drop, pair, nth, eq, choose, text, constant}
@@ -38,14 +37,6 @@ pairs_adds (suc n) = a_fits 0 (2 * suc n) (a_both a_one (a_both a_one (pairs_add
 
 restore_adds : Adds 0 4 restore
 restore_adds = a_both a_one (a_both a_one (a_both a_one a_one))
-
-some_const : (c : Const) → 1 ≤ const_size c
-some_const const.Undef = omega arith
-some_const const.Nil = omega arith
-some_const const.True = omega arith
-some_const const.False = omega arith
-some_const (const.Num n) = omega arith
-some_const (const.Sym name) = omega arith
 
 -- what a part costs within another one is left over: four items for an expression, which a tuple adds, and eight for an arm
 

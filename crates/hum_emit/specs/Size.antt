@@ -36,4 +36,5 @@ pub record Linkable (units : List TestUnit) : Type 0 where
 -- so it is with each file whose tokens are not heavier than those of a text may be
 abbrev pub ProgramsLink : Type 0
 ProgramsLink =
-    (n : ℕ) (ts : List Placed) (file : List Stmt) → IsStmts n (kinds_of ts) file → weight ts ≤ weight_limit → Linkable (tested (resolved file))
+    (n : ℕ) (ts : List Placed) (file : List Stmt) → IsStmts n (kinds_of ts) file → weight ts ≤ weight_limit
+    → Linkable (tested (resolved file))

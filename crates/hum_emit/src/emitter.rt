@@ -2,7 +2,7 @@
 // go on with, and gives the number of its own first one. There are fewer than 2^32 instructions, and so many data: one more is refused as
 // want of memory.
 
-ghost use Rattle.std.specs.Prelude.{◌≡◌, ◌≤◌, pos, negsuc, ◌∷◌, [], length, take, IfOk, OnOk};
+ghost use Rattle.std.specs.Prelude.{◌≡◌, ◌≤◌, ℕ, pos, negsuc, ◌∷◌, [], length, take, IfOk, OnOk};
 ghost use Rattle.hum_code.specs.Layout.{minus};
 ghost use Rattle.hum_emit.specs.declared.instruction.Field.TheVariants as field;
 ghost use Rattle.hum_emit.specs.Emitted as spec;

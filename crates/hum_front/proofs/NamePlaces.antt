@@ -13,7 +13,7 @@ use Rattle.hum_syntax.specs.declared.token.TokenKind.{TokenKind}
 use Rattle.hum_syntax.specs.declared.token.TokenKind.TheVariants as k
 use Rattle.hum_syntax.specs.declared.tree.Stmt.{Stmt}
 use Rattle.hum_syntax.specs.Kinds.{kind_of_run, word_kind}
-use Rattle.hum_syntax.specs.Names.{name_of_kind, names_of, names_of_kinds}
+use Rattle.hum_syntax.specs.Names.{name_of_kind, names_of}
 use Rattle.hum_syntax.specs.Tokens.{Placed, kinds_of}
 use Rattle.hum_syntax.specs.Lexes.{mark_of, IsWholeRun, Stands, run, symbol, text, mark, Lexes}
 use Rattle.hum_syntax.specs.Places.{TokenAt, is_name_kind, name_tokens, name_place, NameAt}

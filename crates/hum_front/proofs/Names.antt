@@ -1,12 +1,12 @@
 -- Names and their tokens.
-use Rattle.std.proofs.Common.{◌≡◌, refl, sym, ap, ◌∙◌, subst, arith, ℕ, zero, suc, ◌+◌, ◌-◌, ◌<◌, ◌≤◌, ◌==◌, Bool, true, false, cond, List, [], ◌∷◌, ◌++◌, length, map, take, drop, get_or, Option, Some, None, ◌⊎◌, inl, inr, if◌then◌else◌}
+use Rattle.std.proofs.Common.{◌≡◌, refl, sym, ap, ◌∙◌, subst, arith, ℕ, zero, suc, ◌+◌, ◌-◌, ◌<◌, ◌≤◌, true, false, cond, List, [], ◌∷◌, ◌++◌, length, map, take, drop, get_or, Option, Some, None, ◌⊎◌, inl, inr}
 use Rattle.std.specs.Prelude.{Result, Ok, Err}
 use Rattle.std.proofs.lemmas.List.{length-map, take_all}
 use Rattle.hum_syntax.specs.Forms.{Bytes}
 use Rattle.hum_syntax.specs.declared.token.TokenKind.{TokenKind}
 use Rattle.hum_syntax.specs.declared.token.TokenKind.TheVariants as k
 use Rattle.hum_syntax.specs.declared.tree.Stmt.{Stmt}
-use Rattle.hum_syntax.specs.Names.{name_of_kind, names_of, names_of_kinds}
+use Rattle.hum_syntax.specs.Names.{name_of_kind, names_of_kinds}
 use Rattle.hum_syntax.specs.declared.token.Token.{Token}
 use Rattle.hum_syntax.specs.Tokens.{Placed, placed_of, all_placed, kinds_of}
 use Rattle.hum_syntax.specs.Spells.{IsStmts}
@@ -17,10 +17,9 @@ use Rattle.hum_syntax.proofs.NamedTrees.{spelled_names}
 use Rattle.hum_scope.specs.Told.{Told}
 use Rattle.hum_scope.proofs.Counts.{scoped-trees}
 use Rattle.hum_scope.specs.declared.refusal.ScopeError.{ScopeError}
-use Rattle.hum_scope.specs.declared.refusal.ScopeError.TheVariants.{NoMemory, Refused}
+use Rattle.hum_scope.specs.declared.refusal.ScopeError.TheVariants.{Refused}
 use Rattle.hum_scope.specs.declared.refusal.ScopeRefused.{ScopeRefused}
-use Rattle.std.specs.Prelude.{is_none, slice_get, ◌↔◌}
-use Rattle.std.specs.List.{list_all}
+use Rattle.std.specs.Prelude.{slice_get}
 use Rattle.std.specs.Option.{option_map}
 use Rattle.hum_syntax.specs.Places.{is_name_kind, name_tokens, name_place}
 

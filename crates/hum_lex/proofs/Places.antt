@@ -1,14 +1,13 @@
 -- Each token of a text stands at its place, and carries what it may.
-use Rattle.std.proofs.Common.{◌≡◌, refl, sym, ap, ◌∙◌, subst, arith, ℕ, zero, suc, ◌+◌, ◌<◌, ◌≤◌, Bool, true, false, List, [], ◌∷◌, ◌++◌, length, Option, Some, None, append_assoc, length-append}
+use Rattle.std.proofs.Common.{◌≡◌, refl, sym, ap, ◌∙◌, subst, arith, ℕ, zero, suc, ◌+◌, ◌≤◌, Bool, true, List, [], ◌∷◌, ◌++◌, length, Some, append_assoc, length-append}
 use Rattle.std.specs.Prelude.{slice_get, ◌&&◌, nat_lt, nat_le}
 use Rattle.std.specs.List.{list_all}
 use Rattle.std.proofs.lemmas.Bool.{and_from, lt-ltb, le-leb}
 use Rattle.hum_syntax.specs.Forms.{Bytes, is_run, is_run_byte}
 use Rattle.hum_syntax.specs.declared.token.TokenKind.{TokenKind}
 use Rattle.hum_syntax.specs.Kinds.{is_carried}
-use Rattle.hum_syntax.specs.Tokens.{Placed, placed, kinds_of, is_callee}
-use Rattle.hum_syntax.specs.Lexes.{IsWholeRun, Stands, run, symbol, text, mark, Spot, spot, Step, blank, comment, token, Leads, here, step, start}
-use Rattle.hum_syntax.specs.Places.{TokenAt}
+use Rattle.hum_syntax.specs.Tokens.{Placed, placed, kinds_of}
+use Rattle.hum_syntax.specs.Lexes.{IsWholeRun, Stands, run, symbol, text, mark, Spot, Step, blank, comment, token, Leads, here, step, start}
 use Rattle.hum_lex.specs.Laws.{TokensStand, TokensAreCarried}
 use Rattle.hum_lex.proofs.Reading.{run_carried, mark_carried}
 

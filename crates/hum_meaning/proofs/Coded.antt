@@ -151,10 +151,11 @@ pub record MeaningCoded {L : Parts} (m : Meaning L) : Type 0 where
   pub matches : (p : L.Pattern) (v : Value L) (env : Env L) (es : List (Entry L)) → Coded (m.matches p v env es)
   pub exec : (b : L.Body) (env : Env L) → Coded (m.exec b env)
 
--- what is asked of a language's matching
-pub record MatchingCoded {L : Parts} (language : Language L) : Type 0 where
+-- what is asked of a language's matching and choices
+pub record NodesCoded {L : Parts} (language : Language L) : Type 0 where
   pub matching : (m : Meaning L) → MeaningCoded m → (p : L.Pattern) (v : Value L) (env : Env L) (es : List (Entry L))
       → Coded (language.match_node m.eval m.matches p v env es)
+  pub choosing : (m : Meaning L) → MeaningCoded m → (x : L.Choice) (v : Value L) (env : Env L) → Coded (language.choose_node m x v env)
 
 module _ {L : Parts} (m : Meaning L) (h : MeaningCoded m) where
   enter_coded : (f : Option (L.Pattern × L.Expr)) (env : Env L) (v : Value L) → Coded (enter m f env v)
@@ -166,7 +167,7 @@ module _ {L : Parts} (m : Meaning L) (h : MeaningCoded m) where
   tuple_coded (e ∷ []) env = h.eval e env
   tuple_coded (e ∷ f ∷ more) env = bind_coded (h.eval e env) (λ v. bind_coded (tuple_coded (f ∷ more) env) (λ w. pure_coded (Pair v w)))
 
-  arms_coded : (all : List (L.Pattern × L.Expr)) (v : Value L) (env : Env L) → Coded (arms m all v env)
+  pub arms_coded : (all : List (L.Pattern × L.Expr)) (v : Value L) (env : Env L) → Coded (arms m all v env)
   arms_coded [] v env = unmatched
   arms_coded (a ∷ more) v env = bind_coded (h.matches a.0 v env []) (λ r. if_matched_coded r _ _ (λ es. h.eval a.1 (extend es env)) (arms_coded more v env))
 
@@ -184,17 +185,17 @@ module _ {L : Parts} (language : Language L) (self base : ℕ) (m : Meaning L) (
   apply_coded (Primitive b) v = built_in_coded b v
   apply_coded _ v = no_function
 
-  eval_node_coded : (e : ExprNode L) (env : Env L) → Coded (eval_node language self base m e env)
-  eval_node_coded (Is v) env = pure_coded v
-  eval_node_coded (Var r) env = found_coded (language.look env r)
-  eval_node_coded Myself env = pure_coded (Plain (Actor self))
-  eval_node_coded (Abs f) env = pure_coded (Function f env)
-  eval_node_coded (BlockOf b) env = pure_coded (Block b env)
-  eval_node_coded (Call f a) env = bind_coded (h.eval f env) (λ g. bind_coded (h.eval a env) (λ v. apply_coded g v))
-  eval_node_coded (Tuple es) env = tuple_coded m h es env
-  eval_node_coded (New e) env = bind_coded (h.eval e env) (λ v. bind_coded (create_coded base v) (λ n. pure_coded (Plain (Actor n))))
-  eval_node_coded (Case e all) env = bind_coded (h.eval e env) (λ v. arms_coded m h all v env)
-  eval_node_coded (If bs other) env = branches_coded m h bs other env
+  eval_node_coded : NodesCoded language → (e : ExprNode L) (env : Env L) → Coded (eval_node language self base m e env)
+  eval_node_coded coded (Is v) env = pure_coded v
+  eval_node_coded coded (Var r) env = found_coded (language.look env r)
+  eval_node_coded coded Myself env = pure_coded (Plain (Actor self))
+  eval_node_coded coded (Abs f) env = pure_coded (Function f env)
+  eval_node_coded coded (BlockOf b) env = pure_coded (Block b env)
+  eval_node_coded coded (Call f a) env = bind_coded (h.eval f env) (λ g. bind_coded (h.eval a env) (λ v. apply_coded g v))
+  eval_node_coded coded (Tuple es) env = tuple_coded m h es env
+  eval_node_coded coded (New e) env = bind_coded (h.eval e env) (λ v. bind_coded (create_coded base v) (λ n. pure_coded (Plain (Actor n))))
+  eval_node_coded coded (Case e all) env = bind_coded (h.eval e env) (λ v. coded.choosing m h all v env)
+  eval_node_coded coded (If bs other) env = branches_coded m h bs other env
 
 module _ {L : Parts} (base : ℕ) (m : Meaning L) (h : MeaningCoded m) where
   statement_coded : (s : StmtNode L) (env : Env L) (rest : Env L → Action L (Unit {0})) → ((env : Env L) → Coded (rest env))
@@ -214,13 +215,13 @@ module _ {L : Parts} (base : ℕ) (m : Meaning L) (h : MeaningCoded m) where
 
 -- ---- all levels
 
-module _ {L : Parts} (language : Language L) (coded : MatchingCoded language) (self base : ℕ) where
+module _ {L : Parts} (language : Language L) (coded : NodesCoded language) (self base : ℕ) where
   nothing_coded : MeaningCoded {L = L} nothing
   nothing_coded = record { eval = λ e env. record { at = λ f s. tt }; matches = λ p v env es. record { at = λ f s. tt }; exec = λ b env. record { at = λ f s. tt } }
 
   stage_coded : (m : Meaning L) → MeaningCoded m → MeaningCoded (stage language self base m)
   stage_coded m h = record {
-    eval = λ e env. step_coded (eval_node_coded language self base m h (language.expr e) env);
+    eval = λ e env. step_coded (eval_node_coded language self base m h coded (language.expr e) env);
     matches = coded.matching m h;
     exec = λ b env. statements_coded base m h (language.body b) env;
   }

@@ -11,7 +11,7 @@ use Rattle.hum_meaning.specs.Written.{named_language}
 use Rattle.hum_meaning.specs.Piece.{piece}
 use Rattle.hum_meaning.specs.Deliver.{Message, Configuration, Delivery, Committed, Failed, Open, responded, printed, respond, delivered, deliver}
 use Rattle.hum_meaning.specs.Codes.{IsActorsCode, IsCode, FailsByCode}
-use Rattle.hum_meaning.proofs.Coded.{FailsSo, Coded, pure_coded, bind_coded, step_coded, if_matched_coded, if_pair_coded, equals_coded, MeaningCoded, MatchingCoded, perform_coded, apply_coded, level_coded}
+use Rattle.hum_meaning.proofs.Coded.{FailsSo, Coded, pure_coded, bind_coded, step_coded, if_matched_coded, if_pair_coded, equals_coded, MeaningCoded, NodesCoded, arms_coded, perform_coded, apply_coded, level_coded}
 
 -- ---- patterns
 
@@ -59,8 +59,8 @@ module _ (t : Trees) (m : Meaning (Named t)) (h : MeaningCoded m) where
   tree_coded (layer.Value e) = value_coded m h e
   tree_coded (layer.Pat::Tuple ps) = tuple_coded m h ps
 
-pub named_coded : (t : Trees) → MatchingCoded (named_language t)
-named_coded t = record { matching = λ m h p v env es. tree_coded t m h (t.pat p) v env es }
+pub named_coded : (t : Trees) → NodesCoded (named_language t)
+named_coded t = record { matching = λ m h p v env es. tree_coded t m h (t.pat p) v env es; choosing = λ m h x v env. arms_coded m h x v env }
 
 -- ---- deliveries
 
@@ -81,7 +81,7 @@ module _ {L : Parts} (c : Configuration L) (m : Message L) where
   printed_fails P h (Some bytes) = tt
   printed_fails P h None = h
 
-module _ {L : Parts} (language : Language L) (coded : MatchingCoded language) where
+module _ {L : Parts} (language : Language L) (coded : NodesCoded language) where
   respond_coded : (self base s : ℕ) (behaviour v : Value L) → Coded (respond language self base s behaviour v)
   respond_coded self base s behaviour v =
       let h = level_coded language coded self base (suc s) in

@@ -97,10 +97,12 @@ pub record Stands {L : Parts} (d : ℕ) (m m' : Meaning L) : Type 0 where
   pub matches : (p : L.Pattern) (v : Value L) (env : Env L) (es : List (Entry L)) → Agrees d (m.matches p v env es) (m'.matches p v env es)
   pub exec : (b : L.Body) (env : Env L) → Agrees d (m.exec b env) (m'.exec b env)
 
--- what is asked of a language's matching: a step is spent before it goes below
+-- what is asked of a language's matching: a step is spent before it goes below; and of its choices
 pub record Lawful {L : Parts} (language : Language L) : Type 0 where
   pub matching : (d : ℕ) (m m' : Meaning L) → Stands (pred d) m m' → (p : L.Pattern) (v : Value L) (env : Env L) (es : List (Entry L))
       → Agrees d (language.match_node m.eval m.matches p v env es) (language.match_node m'.eval m'.matches p v env es)
+  pub choosing : (d : ℕ) (m m' : Meaning L) → Stands d m m' → (x : L.Choice) (v : Value L) (env : Env L)
+      → Agrees d (language.choose_node m x v env) (language.choose_node m' x v env)
 
 module _ {L : Parts} (d : ℕ) (m m' : Meaning L) (h : Stands d m m') where
   enter_agrees : (f : Option (L.Pattern × L.Expr)) (env : Env L) (v : Value L) → Agrees d (enter m f env v) (enter m' f env v)
@@ -112,7 +114,7 @@ module _ {L : Parts} (d : ℕ) (m m' : Meaning L) (h : Stands d m m') where
   tuple_agrees (e ∷ []) env = h.eval e env
   tuple_agrees (e ∷ f ∷ more) env = bind_agrees d (h.eval e env) (λ v. bind_agrees d (tuple_agrees (f ∷ more) env) (λ w. pure_agrees d (Pair v w)))
 
-  arms_agrees : (all : List (L.Pattern × L.Expr)) (v : Value L) (env : Env L) → Agrees d (arms m all v env) (arms m' all v env)
+  pub arms_agrees : (all : List (L.Pattern × L.Expr)) (v : Value L) (env : Env L) → Agrees d (arms m all v env) (arms m' all v env)
   arms_agrees [] v env = fail_agrees d no_match
   arms_agrees (a ∷ more) v env = bind_agrees d (h.matches a.0 v env []) (λ r. if_matched_agrees d r _ _ _ _ (λ es. h.eval a.1 (extend es env)) (arms_agrees more v env))
 
@@ -131,18 +133,18 @@ module _ {L : Parts} (language : Language L) (self base d : ℕ) (m m' : Meaning
   apply_agrees (Primitive b) v = built_in_agrees d b v
   apply_agrees _ v = fail_agrees d not_a_function
 
-  eval_node_agrees : (e : ExprNode L) (env : Env L) → Agrees d (eval_node language self base m e env)
+  eval_node_agrees : Lawful language → (e : ExprNode L) (env : Env L) → Agrees d (eval_node language self base m e env)
       (eval_node language self base m' e env)
-  eval_node_agrees (Is v) env = pure_agrees d v
-  eval_node_agrees (Var r) env = found_agrees d (language.look env r)
-  eval_node_agrees Myself env = pure_agrees d (Plain (Actor self))
-  eval_node_agrees (Abs f) env = pure_agrees d (Function f env)
-  eval_node_agrees (BlockOf b) env = pure_agrees d (Block b env)
-  eval_node_agrees (Call f a) env = bind_agrees d (h.eval f env) (λ g. bind_agrees d (h.eval a env) (λ v. apply_agrees g v))
-  eval_node_agrees (Tuple es) env = tuple_agrees d m m' h es env
-  eval_node_agrees (New e) env = bind_agrees d (h.eval e env) (λ v. bind_agrees d (create_agrees d base v) (λ n. pure_agrees d (Plain (Actor n))))
-  eval_node_agrees (Case e all) env = bind_agrees d (h.eval e env) (λ v. arms_agrees d m m' h all v env)
-  eval_node_agrees (If bs other) env = branches_agrees d m m' h bs other env
+  eval_node_agrees lawful (Is v) env = pure_agrees d v
+  eval_node_agrees lawful (Var r) env = found_agrees d (language.look env r)
+  eval_node_agrees lawful Myself env = pure_agrees d (Plain (Actor self))
+  eval_node_agrees lawful (Abs f) env = pure_agrees d (Function f env)
+  eval_node_agrees lawful (BlockOf b) env = pure_agrees d (Block b env)
+  eval_node_agrees lawful (Call f a) env = bind_agrees d (h.eval f env) (λ g. bind_agrees d (h.eval a env) (λ v. apply_agrees g v))
+  eval_node_agrees lawful (Tuple es) env = tuple_agrees d m m' h es env
+  eval_node_agrees lawful (New e) env = bind_agrees d (h.eval e env) (λ v. bind_agrees d (create_agrees d base v) (λ n. pure_agrees d (Plain (Actor n))))
+  eval_node_agrees lawful (Case e all) env = bind_agrees d (h.eval e env) (λ v. lawful.choosing d m m' h all v env)
+  eval_node_agrees lawful (If bs other) env = branches_agrees d m m' h bs other env
 
 module _ {L : Parts} (base d : ℕ) (m m' : Meaning L) (h : Stands d m m') where
   statement_agrees : (s : StmtNode L) (env : Env L) (r r' : Env L → Action L (Unit {0})) → ((env : Env L) → Agrees d (r env) (r' env))
@@ -170,7 +172,7 @@ module _ {L : Parts} (language : Language L) (lawful : Lawful language) (self ba
 
   stage_stands : (d : ℕ) (m m' : Meaning L) → Stands (pred d) m m' → Stands d (stage language self base m) (stage language self base m')
   stage_stands d m m' h = record {
-    eval = λ e env. step_agrees d (eval_node_agrees language self base (pred d) m m' h (language.expr e) env);
+    eval = λ e env. step_agrees d (eval_node_agrees language self base (pred d) m m' h lawful (language.expr e) env);
     matches = lawful.matching d m m' h;
     exec = λ b env. body_agrees d m m' h (language.body b) env;
   }

@@ -6,7 +6,7 @@ use Rattle.hum_meaning.specs.Language.{Meaning}
 use Rattle.hum_meaning.specs.Named.{Trees, Named, PatTree}
 use Rattle.hum_meaning.specs.Match.{match_tree}
 use Rattle.hum_meaning.specs.Written.{named_language}
-use Rattle.hum_meaning.proofs.Law.{Stands, Lawful}
+use Rattle.hum_meaning.proofs.Law.{Stands, Lawful, arms_agrees}
 use Rattle.hum_meaning.proofs.PatternLaw.{MatchesAgree, any_agrees, bind_mark_agrees, atom_agrees, value_agrees, tuple_agrees}
 
 module _ (t : Trees) (d : ℕ) (m m' : Meaning (Named t)) (h : Stands (pred d) m m') where
@@ -23,4 +23,4 @@ module _ (t : Trees) (d : ℕ) (m m' : Meaning (Named t)) (h : Stands (pred d) m
   tree_agrees (layer.Pat::Tuple ps) = tuple_agrees d m m' h ps
 
 pub named_lawful : (t : Trees) → Lawful (named_language t)
-named_lawful t = record { matching = λ d m m' h p v env es. tree_agrees t d m m' h (t.pat p) v env es }
+named_lawful t = record { matching = λ d m m' h p v env es. tree_agrees t d m m' h (t.pat p) v env es; choosing = λ d m m' h x v env. arms_agrees d m m' h x v env }

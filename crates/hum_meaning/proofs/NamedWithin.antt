@@ -13,7 +13,7 @@ use Rattle.hum_meaning.specs.Match.{match_tree}
 use Rattle.hum_meaning.specs.Written.{named_language}
 use Rattle.hum_meaning.specs.Sound.{ValueWithin, EnvWithin}
 use Rattle.hum_meaning.proofs.Within.{value_more, env_more, EntriesWithin, OptionWithin, MatchedWithin, entries_more, Keeps, pure_keeps, bind_keeps, step_keeps}
-use Rattle.hum_meaning.proofs.WithinLaw.{if_matched_keeps, if_pair_keeps, equals_keeps, MeaningKeeps, IsConstant, KeepsActors}
+use Rattle.hum_meaning.proofs.WithinLaw.{if_matched_keeps, if_pair_keeps, equals_keeps, MeaningKeeps, IsConstant, KeepsActors, arms_keeps}
 
 -- ---- patterns
 
@@ -122,4 +122,5 @@ named_keeps t = record {
   constants = λ e. is_constant t (t.expr e);
   look = look_within t;
   matching = λ base m h n p v env es i j k. tree_keeps t base m h (t.pat p) n v env es i j k;
+  choosing = λ base m h x n v env i j. arms_keeps base m h x n v env i j;
 }

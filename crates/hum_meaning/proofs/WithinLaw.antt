@@ -129,6 +129,8 @@ pub record KeepsActors {L : Parts} (language : Language L) : Type 0 where
   pub look : (n : ℕ) (env : Env L) (r : L.Reference) → EnvWithin n env → OptionWithin n (language.look env r)
   pub matching : (base : ℕ) (m : Meaning L) → MeaningKeeps base m → (n : ℕ) (p : L.Pattern) (v : Value L) (env : Env L) (es : List (Entry L))
       → ValueWithin n v → EnvWithin n env → EntriesWithin n es → Keeps base n MatchedWithin (language.match_node m.eval m.matches p v env es)
+  pub choosing : (base : ℕ) (m : Meaning L) → MeaningKeeps base m → (x : L.Choice) (n : ℕ) (v : Value L) (env : Env L)
+      → ValueWithin n v → EnvWithin n env → Keeps base n ValueWithin (language.choose_node m x v env)
 
 module _ {L : Parts} (base : ℕ) (below : Meaning L) (h : MeaningKeeps base below) where
   enter_keeps : (n : ℕ) (f : Option (L.Pattern × L.Expr)) (env : Env L) (v : Value L) → EnvWithin n env → ValueWithin n v
@@ -146,7 +148,7 @@ module _ {L : Parts} (base : ℕ) (below : Meaning L) (h : MeaningKeeps base bel
       (λ m le v j. bind_keeps base (tuple_keeps (f ∷ more) m env (env_more n m le env i))
       (λ k up w a. pure_keeps base k ValueWithin (Pair v w) (λ l over b. (value_more m l (omega (arith, up, over)) v j, value_more k l over w a))))
 
-  arms_keeps : (all : List (L.Pattern × L.Expr)) (n : ℕ) (v : Value L) (env : Env L) → ValueWithin n v → EnvWithin n env
+  pub arms_keeps : (all : List (L.Pattern × L.Expr)) (n : ℕ) (v : Value L) (env : Env L) → ValueWithin n v → EnvWithin n env
       → Keeps base n ValueWithin (arms below all v env)
   arms_keeps [] n v env i j = fail_keeps base n ValueWithin no_match
   arms_keeps (a ∷ more) n v env i j =
@@ -191,7 +193,7 @@ module _ {L : Parts} (language : Language L) (lawful : KeepsActors language) (se
   eval_node_keeps n (Tuple es) env c i = tuple_keeps base below h es n env i
   eval_node_keeps n (New e) env c i = new_keeps n e env i
   eval_node_keeps n (Case e all) env c i =
-      bind_keeps base (h.eval n e env i) (λ m le v j. arms_keeps base below h all m v env j (env_more n m le env i))
+      bind_keeps base (h.eval n e env i) (λ m le v j. lawful.choosing base below h all m v env j (env_more n m le env i))
   eval_node_keeps n (If bs other) env c i = branches_keeps base below h bs n other env i
 
 module _ {L : Parts} (base : ℕ) (below : Meaning L) (h : MeaningKeeps base below) where

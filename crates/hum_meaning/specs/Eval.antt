@@ -50,7 +50,7 @@ module _ {L : Parts} (below : Meaning L) where
   tuple (e ∷ []) env = below.eval e env
   tuple (e ∷ f ∷ more) env = below.eval e env >>= (λ v. tuple (f ∷ more) env >>= (λ w. pure (Pair v w)))
 
-  -- the expression of the first arm whose pattern matches
+  -- a choice by arms: the expression of the first one whose pattern matches
   abbrev pub arms : List (L.Pattern × L.Expr) → Value L → Env L → Action L (Value L)
   arms [] v env = fail no_match
   arms (a ∷ more) v env = below.matches a.0 v env [] >>= (λ m. if_matched m (λ es. below.eval a.1 (extend es env)) (arms more v env))
@@ -83,7 +83,7 @@ module _ {L : Parts} (language : Language L) (self base : ℕ) (below : Meaning 
     v ← below.eval e env
     n ← create base v
     pure (Plain (Actor n))
-  eval_node (Case e all) env = do
+  eval_node (Case e choice) env = do
     v ← below.eval e env
-    arms below all v env
+    language.choose_node below choice v env
   eval_node (If bs other) env = branches below bs other env

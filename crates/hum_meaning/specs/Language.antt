@@ -13,7 +13,7 @@ pub data ExprNode (L : Parts) : Type 0 where
   Call : (callee argument : L.Expr) → ExprNode L
   Tuple : List L.Expr → ExprNode L
   New : L.Expr → ExprNode L
-  Case : L.Expr → List (L.Pattern × L.Expr) → ExprNode L
+  Case : L.Expr → L.Choice → ExprNode L
   If : List (L.Expr × L.Body) → (other : L.Body) → ExprNode L
 
 -- one statement; the first function definition of a stretch is `Functions` with all definitions of the stretch, and each further one is
@@ -51,10 +51,12 @@ pub record Meaning (L : Parts) : Type 0 where
   pub exec : Executor L
 
 -- how a language is read: the node of an expression, the statements of a body, the pattern and the body of an abstraction, what a reference
--- finds in an environment, and one node of matching over evaluation and matching of what is below it
+-- finds in an environment, one node of matching over evaluation and matching of what is below it, and what a choice gives for a value over the
+-- meaning of what is below
 pub record Language (L : Parts) : Type 0 where
   pub expr : L.Expr → ExprNode L
   pub body : L.Body → List (StmtNode L)
   pub abstraction : L.Abstraction → Option (L.Pattern × L.Expr)
   pub look : Env L → L.Reference → Option (Value L)
   pub match_node : Evaluator L → Matcher L → Matcher L
+  pub choose_node : Meaning L → L.Choice → Value L → Env L → Action L (Value L)

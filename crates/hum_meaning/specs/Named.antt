@@ -46,9 +46,17 @@ module _ (t : Trees) where
   abbrev pub Lambda : Type 0
   Lambda = t.Pat × t.Expr
 
-  -- bindings and their uses are names, and a block's body is its statements
+  -- bindings and their uses are names, a choice is by arms, and a block's body is its statements
   abbrev pub Named : Parts
-  Named = record { Expr = t.Expr; Pattern = t.Pat; Body = List t.Stmt; Abstraction = Lambda; Mark = Name; Reference = Name }
+  Named = record {
+    Expr = t.Expr;
+    Pattern = t.Pat;
+    Choice = List (t.Pat × t.Expr);
+    Body = List t.Stmt;
+    Abstraction = Lambda;
+    Mark = Name;
+    Reference = Name;
+  }
 
   abbrev pub ExprTree : Type 0
   ExprTree = Expr-F t.Expr t.Pat t.Stmt t.Arm t.Branch

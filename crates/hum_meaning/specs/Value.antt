@@ -2,11 +2,12 @@
 -- makes of it, with numbers in their place.
 use Rattle.std.specs.Prelude.{ℕ, ℤ, pos, Bool, List, [], ◌∷◌}
 
--- What a language is made of: its expressions, its patterns, the bodies of its blocks, its abstractions, what a binding bears, and what
--- stands where a binding is used.
+-- What a language is made of: its expressions, its patterns, what a `CASE` chooses by, the bodies of its blocks, its abstractions, what a
+-- binding bears, and what stands where a binding is used.
 pub record Parts : Type 1 where
   pub Expr : Type 0
   pub Pattern : Type 0
+  pub Choice : Type 0
   pub Body : Type 0
   pub Abstraction : Type 0
   pub Mark : Type 0

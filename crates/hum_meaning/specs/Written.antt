@@ -5,6 +5,7 @@ use Rattle.hum_meaning.specs.Named.{Trees, Named, written, expr_node}
 use Rattle.hum_meaning.specs.Body.{body_of}
 use Rattle.hum_meaning.specs.Look.{look}
 use Rattle.hum_meaning.specs.Match.{match_tree}
+use Rattle.hum_meaning.specs.Eval.{arms}
 
 abbrev pub named_language : (t : Trees) → Language (Named t)
 named_language t = record {
@@ -13,6 +14,7 @@ named_language t = record {
   abstraction = λ f. Some f;
   look = look t;
   match_node = λ eval matches p. match_tree t eval matches (t.pat p);
+  choose_node = arms;
 }
 
 -- the one that the trees of programs are in

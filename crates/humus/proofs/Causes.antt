@@ -1,18 +1,22 @@
 -- Refused commands have their answers' causes.
-use Rattle.std.proofs.Common.{◌≡◌, ℕ, List, Some, refl, inl, inr}
-use Rattle.hum_outside.specs.Outside.{told}
+use Rattle.std.proofs.Common.{◌≡◌, ℕ, List, [], ◌∷◌, Option, Some, refl, inl, inr}
+use Rattle.hum_outside.specs.Outside.{Files, told}
 use Rattle.humus.specs.Words.{Run, Link, Exec, command_of}
 use Rattle.humus.specs.Runs.{RunFails}
-use Rattle.humus.specs.Files.{LinkFails}
+use Rattle.humus.specs.Files.{IsNext, LinkFails}
 use Rattle.humus.specs.Loads.{FileFails}
 use Rattle.humus.specs.declared.keys.Keys.{Keys}
 use Rattle.humus.specs.Answers.{Call, Declines, Executed, Answered}
 use Rattle.humus.specs.declared.answer.Answer.{Answer}
 use Rattle.humus.specs.declared.answer.Answer.TheVariants.{Done, Usage, Unread, TooLong, Fault, Spent, Bound, NoMemory, EventFailed, Refused, NotBuilt}
 
+-- a file alone is the first
+alone : (files : Option Files) (name : List ℕ) → IsNext files (name ∷ []) name
+alone files name = record { before = []; after = []; split = refl; texts = []; have = tt }
+
 pub declined_run : (answer : Answer) (c : Call) (name : List ℕ) → command_of c.words ≡ Some (Run name)
     → RunFails c.faults_old c.faults_new (told c.files name) answer → Declines answer c name → Answered answer c
-declined_run Unread c name asked fails d = (name, record { command = Run name; asked = asked; named = inl refl; cause = fails }, d)
+declined_run Unread c name asked fails d = (name, record { command = Run name; asked = asked; named = alone c.files name; cause = fails }, d)
 declined_run TooLong c name asked fails d = (name, record { asked = asked; text = fails }, d)
 declined_run NotBuilt c name asked fails d = (name, record { asked = asked; text = fails }, d)
 declined_run NoMemory c name asked fails d = (record { command = Run name; asked = asked }, record { line = d.line; out = d.out; last = d.last })
@@ -41,7 +45,7 @@ declined_link EventFailed c names name asked fails d = absurd fails
 
 pub declined_exec : (answer : Answer) (c : Call) (name : List ℕ) (keys : Keys) → command_of c.words ≡ Some (Exec name keys)
     → FileFails c.faults_old c.faults_new (told c.files name) answer → Declines answer c name → Answered answer c
-declined_exec Unread c name keys asked fails d = (name, record { command = Exec name keys; asked = asked; named = inl refl; cause = fails }, d)
+declined_exec Unread c name keys asked fails d = (name, record { command = Exec name keys; asked = asked; named = alone c.files name; cause = fails }, d)
 declined_exec (Refused why) c name keys asked fails d =
     (name, inr (record { keys = keys; asked = asked; bytes = fails.0; text = fails.1; refused = fails.2 }), d)
 declined_exec NoMemory c name keys asked fails d = (record { command = Exec name keys; asked = asked }, record { line = d.line; out = d.out; last = d.last })

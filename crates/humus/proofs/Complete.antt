@@ -1,8 +1,9 @@
 -- Where nothing fails, a command that can be done is done.
-use Rattle.std.proofs.Common.{Bool, true, false, ◌≡◌, ◌⊎◌, ◌∙◌, ℕ, List, [], ◌∷◌, Option, Some, None, Ok, refl, sym, ap, subst, inl, inr, ⊎_elim, arith}
+use Rattle.std.proofs.Common.{Bool, true, false, ◌≡◌, ◌⊎◌, ◌∙◌, ℕ, ℤ, ◌≤◌, length, List, [], ◌∷◌, ◌++◌, Option, Some, None, Ok, refl, sym, ap, subst, inl, inr, ⊎_elim, arith}
 use Rattle.hum_outside.specs.Outside.{Files, told, Rose}
 use Rattle.quad_memory.specs.Image.{RomImage}
 use Rattle.vm_turn.specs.State.{State}
+use Rattle.hum_run.specs.Text.{IsFirstForm}
 use Rattle.uasm_image.specs.Spelled.{spelled}
 use Rattle.uasm_image.specs.Refused.{IsRefusedAt}
 use Rattle.uasm_image.proofs.Once.{faultless}
@@ -11,10 +12,10 @@ use Rattle.uasm_read.specs.Links.{link_fault}
 use Rattle.humus.specs.Words.{Command, Run, Link, Exec, command_of, files_of}
 use Rattle.humus.specs.Outside.{TextIs}
 use Rattle.humus.specs.Link.{AreTold, HaveTexts, modules_of, RefusedBy}
-use Rattle.humus.specs.Files.{IsAmong}
+use Rattle.humus.specs.Files.{IsNext}
 use Rattle.humus.specs.Load.{Holds, HoldsNone, Loads, Unloaded, LinksAlone, UnlinkedAlone, is_image_file}
 use Rattle.humus.specs.Drive.{is_reached}
-use Rattle.humus.specs.Answers.{Call, Answered, IsTooLong, IsNotBuilt, RunsText, NotRead, RefusesFiles, RefusesFile, Refuses, Executed, EndsRun, status_of}
+use Rattle.humus.specs.Answers.{Call, Answered, IsTooLong, IsNotBuilt, RunsText, NotRead, RefusesFiles, RefusesFile, Refuses, Executed, EndsRun, status_of, text_limit}
 use Rattle.humus.specs.declared.keys.Keys.{Keys}
 use Rattle.humus.specs.declared.refusal.Refusal.TheVariants.{FileTooLong, Image, Module, Twice, NoSuch, NoBoot, TooLarge}
 use Rattle.humus.specs.declared.refusal.Refusal.{Refusal}
@@ -28,16 +29,12 @@ text_of P None bytes is p = absurd (cc)
 text_of P (Some None) bytes is p = absurd (cc)
 text_of P (Some (Some other)) bytes is p = let same : other ≡ bytes = cc in subst P same p
 
-told_there : (files : Option Files) (names texts : List (List ℕ)) (name : List ℕ) → AreTold files names texts → IsAmong names name
+told_there : (files : Option Files) (before after texts : List (List ℕ)) (name : List ℕ) → AreTold files (before ++ name ∷ after) texts
     → told files name ≡ Some None → ⊥
-told_there files [] [] name are among none = absurd among
-told_there files [] (text ∷ texts) name are among none = absurd are
-told_there files (other ∷ names) [] name are among none = absurd are
-told_there files (other ∷ names) (text ∷ texts) name are among none =
-    ⊎_elim
-    (λ same. let is : told files name ≡ Some (Some text) = ap (told files) (sym same) ∙ are.0 in cc)
-    (λ more. told_there files names texts name are.1 more none)
-    among
+told_there files [] after [] name are none = absurd are
+told_there files [] after (text ∷ texts) name are none = let is : told files name ≡ Some (Some text) = are.0 in cc
+told_there files (other ∷ before) after [] name are none = absurd are
+told_there files (other ∷ before) after (text ∷ texts) name are none = told_there files before after texts name are.1 none
 
 same_texts : (files : Option Files) (names texts others : List (List ℕ)) → AreTold files names texts → HaveTexts files names others → others ≡ texts
 same_texts files [] [] [] are have = refl
@@ -49,14 +46,61 @@ same_texts files (name ∷ names) (text ∷ texts) (other ∷ others) are have =
     let first : text ≡ other = text_of (λ told. told ≡ other) (told files name) text are.0 have.0 in
     let more : others ≡ texts = same_texts files names texts others are.1 have.1 in cc
 
+-- a file alone that has a text is not told to be absent
+one_read : (files : Option Files) (name other bytes : List ℕ) → IsNext files (name ∷ []) other → told files name ≡ Some (Some bytes) → told files other ≡ Some None → ⊥
+one_read files name other bytes next is none =
+    told_there files next.before next.after (bytes ∷ []) other (subst (λ (ns : List (List ℕ)). AreTold files ns (bytes ∷ [])) next.split (is, tt)) none
+
+-- ---- `run`
+
+run_read : (files : Option Files) (command : Command) (name other bytes : List ℕ) → Some command ≡ Some (Run name)
+    → IsNext files (files_of command) other → told files name ≡ Some (Some bytes) → told files other ≡ Some None → ⊥
+run_read files (Exec name' keys) name other bytes same next is none = cc
+run_read files (Link names) name other bytes same next is none = cc
+run_read files (Run name') name other bytes same next is none =
+    let one : name' ≡ name = cc in one_read files name' other bytes next (ap (told files) one ∙ is) none
+
+run_text : (P : List ℕ → Type 0) (c : Call) (name other bytes : List ℕ) → command_of c.words ≡ Some (Run name) → told c.files name ≡ Some (Some bytes)
+    → RunsText P c other → P bytes
+run_text P c name other bytes asked is runs =
+    let equal : Some (Run other) ≡ Some (Run name) = sym runs.asked ∙ asked in
+    let one : other ≡ name = cc in
+    text_of P (told c.files other) bytes (ap (told c.files) one ∙ is) runs.text
+
+pub run_done : (answer : Answer) (c : Call) (name bytes : List ℕ) (numbers : List ℤ) → command_of c.words ≡ Some (Run name)
+    → told c.files name ≡ Some (Some bytes) → length bytes ≤ text_limit → IsFirstForm bytes numbers
+    → ¬ (Rose c.faults_old c.faults_new) → ¬ (Rose c.out.faults_old c.out.faults_new) → ¬ (Rose c.err.faults_old c.err.faults_new)
+    → Answered answer c → (status_of answer ≡ 0) ⊎ (status_of answer ≡ 7)
+run_done Done c name bytes numbers asked is short form no_fault no_out no_err a = inl refl
+run_done NoMemory c name bytes numbers asked is short form no_fault no_out no_err a = inr refl
+run_done Usage c name bytes numbers asked is short form no_fault no_out no_err a = let none = a.0 in absurd (cc)
+run_done Unread c name bytes numbers asked is short form no_fault no_out no_err a =
+    let not_read : NotRead c a.0 = a.1 in
+    absurd (⊎_elim no_fault
+    (λ none. run_read c.files not_read.command name a.0 bytes (sym not_read.asked ∙ asked) not_read.named is none) not_read.cause)
+run_done TooLong c name bytes numbers asked is short form no_fault no_out no_err a =
+    let long : IsTooLong bytes = run_text IsTooLong c name a.0 bytes asked is a.1 in absurd (omega (arith, short, long))
+run_done NotBuilt c name bytes numbers asked is short form no_fault no_out no_err a =
+    let none : IsNotBuilt bytes = run_text IsNotBuilt c name a.0 bytes asked is a.1 in absurd (none.1 numbers form)
+run_done (Spent kind) c name bytes numbers asked is short form no_fault no_out no_err a = let other = a.asked in absurd (cc)
+run_done Bound c name bytes numbers asked is short form no_fault no_out no_err a = let other = a.asked in absurd (cc)
+run_done EventFailed c name bytes numbers asked is short form no_fault no_out no_err a = let other = a.asked in absurd (cc)
+run_done (Refused why) c name bytes numbers asked is short form no_fault no_out no_err a =
+    let refuses : Refuses why c a.0 = a.1 in
+    absurd (⊎_elim (λ files. let other = files.asked in cc) (λ file. let other = file.asked in cc) refuses)
+run_done Fault c name bytes numbers asked is short form no_fault no_out no_err a =
+    absurd (⊎_elim (λ ran. ⊎_elim (λ out. no_out out.output.1) (λ err. no_err err.counts.1) ran.ends)
+    (⊎_elim (λ linked. let other = linked.asked in cc) (λ executed. let other = executed.asked in cc)) a)
+
 -- ---- `link`
 
 link_read : (files : Option Files) (command : Command) (names texts : List (List ℕ)) (other : List ℕ) → Some command ≡ Some (Link names)
-    → AreTold files names texts → IsAmong (files_of command) other → told files other ≡ Some None → ⊥
-link_read files (Run name) names texts other same are among none = cc
-link_read files (Exec name keys) names texts other same are among none = cc
-link_read files (Link names') names texts other same are among none =
-    let one : names' ≡ names = cc in told_there files names texts other are (subst (λ (ns : List (List ℕ)). IsAmong ns other) one among) none
+    → AreTold files names texts → IsNext files (files_of command) other → told files other ≡ Some None → ⊥
+link_read files (Run name) names texts other same are next none = cc
+link_read files (Exec name keys) names texts other same are next none = cc
+link_read files (Link names') names texts other same are next none =
+    let one : names ≡ names' = cc in
+    told_there files next.before next.after texts other (subst (λ (ns : List (List ℕ)). AreTold files ns texts) (one ∙ next.split) are) none
 
 linked_there : (names texts : List (List ℕ)) (modules : List ModuleParts) (why : Refusal) (name : List ℕ) → modules_of names texts ≡ Ok modules
     → link_fault modules ≡ None → RefusedBy names texts why name → ⊥
@@ -105,15 +149,11 @@ link_done Fault c names texts modules asked are read sound no_fault no_out a =
 -- ---- `exec`
 
 exec_read : (files : Option Files) (command : Command) (name other bytes : List ℕ) (keys : Keys) → Some command ≡ Some (Exec name keys)
-    → IsAmong (files_of command) other → told files name ≡ Some (Some bytes) → told files other ≡ Some None → ⊥
-exec_read files (Run name') name other bytes keys same among is none = cc
-exec_read files (Link names) name other bytes keys same among is none = cc
-exec_read files (Exec name' keys') name other bytes keys same among is none =
-    ⊎_elim
-    (λ (e : name' ≡ other).
-    let one : name' ≡ name = cc in
-    let moved : told files name ≡ told files other = ap (told files) (sym one ∙ e) in cc)
-    (λ e. absurd e) among
+    → IsNext files (files_of command) other → told files name ≡ Some (Some bytes) → told files other ≡ Some None → ⊥
+exec_read files (Run name') name other bytes keys same next is none = cc
+exec_read files (Link names) name other bytes keys same next is none = cc
+exec_read files (Exec name' keys') name other bytes keys same next is none =
+    let one : name' ≡ name = cc in one_read files name' other bytes next (ap (told files) one ∙ is) none
 
 unlinked : (bytes : List ℕ) (image : RomImage) (why : Refusal) → LinksAlone bytes image → UnlinkedAlone bytes why → ⊥
 unlinked bytes image why links un =

@@ -1,11 +1,14 @@
 -- What one turn comes to, and what several come to.
-use Rattle.std.proofs.Common.{◌≡◌, ℕ, suc, ◌+◌, List, [], ◌∷◌, ◌++◌, Option, Some, None, Bool, true, false, Ok, refl, sym, ap, ◌∙◌, subst, arith, append-nil, append_assoc}
+use Rattle.std.proofs.Common.{◌≡◌, ℕ, suc, ◌+◌, ◌≤◌, ◌<◌, List, [], ◌∷◌, ◌++◌, Option, Some, None, Bool, true, false, Ok, refl, sym, ap, ◌∙◌, subst, arith, append-nil, append_assoc, ⊎_elim, Result, Err}
+use Rattle.std.specs.Prelude.{if◌then◌else◌}
+use Rattle.std.proofs.Math.Nat.{eq-or-lt_of_le}
 use Rattle.std.proofs.lemmas.List.Concat.{flat_map-append}
 use Rattle.hum_outside.specs.Outside.{AppendsFront, appended}
 use Rattle.hum_outside.proofs.Fronts.{appended-appended}
 use Rattle.quad_memory.specs.Image.{RomImage}
 use Rattle.instr_table.specs.declared.charge.Quota.{Quota}
 use Rattle.vm_sponsor.specs.declared.amounts.Amounts.{Amounts}
+use Rattle.vm_devices.specs.declared.delivery.WriteFault.{WriteFault}
 use Rattle.vm_turn.specs.declared.journal.Entry.{Entry}
 use Rattle.vm_turn.specs.declared.journal.Outcome.TheVariants.{RanOut}
 use Rattle.vm_turn.specs.declared.journal.Turn.{Turn as Answer}
@@ -13,13 +16,13 @@ use Rattle.vm_turn.specs.declared.journal.Turn.TheVariants.{Dispatched, Stepped,
 use Rattle.vm_turn.specs.State.{State}
 use Rattle.vm_turn.specs.Boot.{booted}
 use Rattle.vm_turn.specs.Turn.{dispatchable, entry, turn}
-use Rattle.vm_turn.specs.Run.{after, run, picks, pick_of, drawn, drawn_after}
+use Rattle.vm_turn.specs.Run.{after, run, picks, pick_of, drawn, drawn_after, not_rest, unless_out}
 use Rattle.vm_turn.proofs.Runs.{after-append, picks-next}
 use Rattle.vm_machine.specs.View.{unwritten}
 use Rattle.vm_machine.specs.Turns.{Takes}
 use Rattle.vm_machine.specs.Machine.{Machine, drawn_run, turns_by}
 use Rattle.humus.specs.declared.drive.Stop.TheVariants.{Rest as AtItsEnd, Spent as OutOf}
-use Rattle.humus.specs.Drive.{IsRun, written_by, next_pick, next_piece, entry_line, failed_lines, turn_line, stop_of, Advances, Drives, BreaksOut, BreaksErr, Breaks, FallsShort, Goes}
+use Rattle.humus.specs.Drive.{IsRun, written_by, next_pick, next_piece, entry_line, failed_lines, turn_line, stop_of, Advances, Drives, BreaksOut, BreaksErr, Breaks, FallsShort, Goes, is_reached, Unreached}
 use Rattle.humus.proofs.Turned.{Tells, turn-tells, turn-writes}
 
 pub appended-none : (old : Option (List ℕ)) → old ≡ appended old []
@@ -246,3 +249,31 @@ module _ (a b c : Machine) (out_a out_b out_c err_a err_b err_c : Option (List �
     out = y.out ∙ twice out_a out_b x.bytes y.bytes x.out;
     err = subst (λ (o : Option (List ℕ)). AppendsFront o err_c (entry_line y.last)) (lines-twice err_a err_b x.entries y.entries x.err) y.err;
   }
+
+-- ---- turns before the bound
+
+-- a call completes one turn at most
+pub one-turn : (out_of : Option Quota) (answer : Result Answer WriteFault) → turns_by out_of answer ≤ 1
+one-turn out_of (Err fault) = omega arith
+one-turn out_of (Ok answer) = by (unless_out out_of (not_rest answer))
+  where
+    by : (b : Bool) → (if b then 1 else 0) ≤ 1
+    by true = omega arith
+    by false = omega arith
+
+-- no turn was taken
+pub unreached-none : (bound : Option ℕ) (m : Machine) → Unreached bound m.turns m
+unreached-none bound m n low high = absurd (omega (arith, low, high))
+
+module _ (bound : Option ℕ) (from : ℕ) (a b : Machine) (runs : IsRun a) (before : Unreached bound from a) (now : is_reached bound a.state ≡ false) (few : b.turns ≤ a.turns + 1) where
+  -- a turn more was taken, where the bound was not reached
+  pub unreached-more : (bytes : List ℕ) (entries : List Entry) → Advances a b bytes entries → Unreached bound from b
+  unreached-more bytes entries x n low high = ap (is_reached bound) (λ i. drawn_run (x.image i) (x.grant i) (x.lanes i) (x.seed i) n) ∙ ⊎_elim
+      (λ (here : n ≡ a.turns). ap (is_reached bound) (ap (drawn_run a.image a.grant a.state.lanes a.seed) here ∙ sym runs) ∙ now)
+      (λ (earlier : n < a.turns). before n low earlier)
+      (eq-or-lt_of_le (omega (arith, few, high)))
+
+  -- the same where a write failed
+  pub unreached-broken : (on_err : Bool) (out_old out_new err_old err_new : Option (List ℕ)) → Breaks on_err a b out_old out_new err_old err_new → Unreached bound from b
+  unreached-broken false out_old out_new err_old err_new broke = unreached-more broke.bytes broke.entries broke.advances
+  unreached-broken true out_old out_new err_old err_new broke = unreached-more broke.bytes (broke.entries ++ broke.last ∷ []) broke.advances

@@ -15,7 +15,7 @@ use Rattle.humus.specs.declared.keys.Keys.{Keys}
 use Rattle.humus.specs.declared.answer.Answer.{Answer}
 use Rattle.humus.specs.declared.answer.Answer.TheVariants as answer
 use Rattle.humus.specs.Outside.{writes}
-use Rattle.humus.specs.Drive.{IsRun, written_by, next_piece, entry_line, failed_lines, Advances, Drives, BreaksOut, BreaksErr, Breaks, RoseOn, Stops, ending}
+use Rattle.humus.specs.Drive.{IsRun, written_by, next_piece, entry_line, failed_lines, Advances, Drives, BreaksOut, BreaksErr, Breaks, RoseOn, Stops, Unreached, ending}
 use Rattle.humus.specs.Exec.{IsOf, Ended, FailedOut, FailedErr, FailedEnd, Runs, AnswersTo, Fresh}
 
 -- ---- what turns keep
@@ -43,11 +43,16 @@ module _ (old new : Machine) (bytes : List ℕ) (entries : List Entry) (fresh : 
   pub listed : entries ≡ new.state.journal
   listed = sym (advances.journal ∙ ap (λ (j : List Entry). j ++ entries) fresh.journal)
 
-module _ (bound : Option ℕ) (old new : Machine) (oo on eo em en : Option (List ℕ)) (a b c d : ℕ) (fresh : Fresh old) where
+-- from its first turn on
+from_start : (bound : Option ℕ) (old new : Machine) → Fresh old → Unreached bound old.turns new → Unreached bound 0 new
+from_start bound old new fresh unreached = subst (λ (n : ℕ). Unreached bound n new) fresh.turns unreached
+
+module _ (bound : Option ℕ) (old new : Machine) (oo on eo em en : Option (List ℕ)) (a b c d : ℕ) (fresh : Fresh old) (unreached : Unreached bound old.turns new) where
   pub ended : (stop : Stop) → Drives old new oo on eo em → Stops bound stop new → en ≡ appended em (ending stop new.state)
       → Ended bound stop new (writes oo on a b) (writes eo en c d)
   ended stop drives stops last = record {
     stops = stops;
+    unreached = from_start bound old new fresh unreached;
     output = drives.out ∙ ap (appended oo) (wrote old new drives.bytes drives.entries fresh drives.advances);
     lines = last
         ∙ ap (λ (e : Option (List ℕ)). appended e (ending stop new.state)) (drives.err ∙ ap (λ (es : List Entry). appended eo (failed_lines es)) (listed old new drives.bytes drives.entries fresh drives.advances))
@@ -59,22 +64,25 @@ module _ (bound : Option ℕ) (old new : Machine) (oo on eo em en : Option (List
   failed_end stop drives stops front rose = record {
     stop = stop;
     stops = stops;
+    unreached = from_start bound old new fresh unreached;
     output = drives.out ∙ ap (appended oo) (wrote old new drives.bytes drives.entries fresh drives.advances);
     lines = subst (λ (e : Option (List ℕ)). AppendsFront e en (ending stop new.state))
         (drives.err ∙ ap (λ (es : List Entry). appended eo (failed_lines es)) (listed old new drives.bytes drives.entries fresh drives.advances)) front;
     rose = rose;
   }
 
-module _ (bound : Option ℕ) (old new : Machine) (oo on eo en : Option (List ℕ)) (a b c d : ℕ) (fresh : Fresh old) where
-  failed_out : BreaksOut old new oo on eo en → Rose a b → FailedOut new (writes oo on a b) (writes eo en c d)
+module _ (bound : Option ℕ) (old new : Machine) (oo on eo en : Option (List ℕ)) (a b c d : ℕ) (fresh : Fresh old) (unreached : Unreached bound old.turns new) where
+  failed_out : BreaksOut old new oo on eo en → Rose a b → FailedOut bound new (writes oo on a b) (writes eo en c d)
   failed_out broke rose = record {
+    unreached = from_start bound old new fresh unreached;
     output = subst (λ (bs : List ℕ). AppendsFront (appended oo bs) on (next_piece new)) (wrote old new broke.bytes broke.entries fresh broke.advances) broke.out;
     rose = rose;
     lines = broke.err ∙ ap (λ (es : List Entry). appended eo (failed_lines es)) (listed old new broke.bytes broke.entries fresh broke.advances);
   }
 
-  failed_err : BreaksErr old new oo on eo en → Rose c d → FailedErr new (writes oo on a b) (writes eo en c d)
+  failed_err : BreaksErr old new oo on eo en → Rose c d → FailedErr bound new (writes oo on a b) (writes eo en c d)
   failed_err broke rose = record {
+    unreached = from_start bound old new fresh unreached;
     entries = broke.entries;
     last = broke.last;
     journal = sym (listed old new broke.bytes (broke.entries ++ broke.last ∷ []) fresh broke.advances);
@@ -116,6 +124,7 @@ module _ (m : Machine) (image : RomImage) (grant : Amounts) (lanes seed : ℕ) (
 
   pub booted-fresh : Fresh m
   booted-fresh = record {
+    turns = turns;
     wrote = five (λ (i : RomImage) (g : Amounts) (l s n : ℕ). (run i g l (picks s n)).output) m.image image m.grant grant m.state.lanes lanes m.seed seed m.turns 0 same granted lanes-is seeded turns;
     journal = ap (λ (s : State). s.journal) state;
     not_out = ap (λ (s : State). s.out_of) state;

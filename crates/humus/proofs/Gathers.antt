@@ -1,5 +1,5 @@
 -- Reading files one after another.
-use Rattle.std.proofs.Common.{◌≡◌, ◌∙◌, ℕ, ◌+◌, ◌<◌, ◌≤◌, List, [], ◌∷◌, length, Option, Some, None, Result, Ok, Err, refl, sym, ap, subst, inl, inr, ⊎_elim, append_assoc, append-nil, arith}
+use Rattle.std.proofs.Common.{◌≡◌, ◌∙◌, ℕ, ◌+◌, ◌<◌, ◌≤◌, List, [], ◌∷◌, ◌++◌, length, Option, Some, None, Result, Ok, Err, refl, sym, ap, subst, inl, inr, ⊎_elim, append_assoc, append-nil, arith}
 use Rattle.std.proofs.lemmas.List.{length-replicate}
 use Rattle.std.proofs.lemmas.Bool.{cond-true, lt-ltb}
 use lib.ListN.{replicate}
@@ -10,7 +10,7 @@ use Rattle.uasm_read.specs.Modules.{ModuleParts}
 use Rattle.uasm_read.specs.Assembles.{assembled, text_limit}
 use Rattle.humus.specs.Outside.{TextIs}
 use Rattle.humus.specs.Link.{HaveTexts, BadText, both, of_file, modules_of}
-use Rattle.humus.specs.Files.{IsAmong, Fails, IsRead, ReadTo, LinkFails}
+use Rattle.humus.specs.Files.{IsNext, Fails, IsRead, ReadTo, LinkFails}
 use Rattle.humus.specs.declared.answer.Answer.{Answer}
 use Rattle.humus.specs.declared.answer.Answer.TheVariants.{Done, Usage, Unread, TooLong, Fault, Spent, Bound, NoMemory, EventFailed, Refused, NotBuilt}
 
@@ -55,13 +55,26 @@ read_long file is absent = let told = told_longer text_limit file is absent in (
 pub record Gathers (files : Option Files) (names rest : List (List ℕ)) (so_far : Result (List ModuleParts) BadText) : Type 0 where
   pub more : (texts : List (List ℕ)) → HaveTexts files rest texts
       → (all : List (List ℕ)) × HaveTexts files names all × (modules_of names all ≡ both so_far (modules_of rest texts))
-  pub among : (name : List ℕ) → IsAmong rest name → IsAmong names name
+  pub before : List (List ℕ)
+  pub split : names ≡ before ++ rest
+  pub texts : List (List ℕ)
+  pub have : HaveTexts files before texts
 
 pub gathers-start : (files : Option Files) (names : List (List ℕ)) → Gathers files names names (Ok [])
 gathers-start files names = record {
   more = λ texts have. (texts, have, sym (both-start (modules_of names texts)));
-  among = λ name is. is;
+  before = [];
+  split = refl;
+  texts = [];
+  have = tt;
 }
+
+have-more : (files : Option Files) (names texts : List (List ℕ)) (name text : List ℕ) → HaveTexts files names texts → TextIs (λ told. told ≡ text) (told files name)
+    → HaveTexts files (names ++ name ∷ []) (texts ++ text ∷ [])
+have-more files [] [] name text have is = (is, tt)
+have-more files [] (other ∷ texts) name text have is = absurd have
+have-more files (other ∷ names) [] name text have is = absurd have
+have-more files (other ∷ names) (first ∷ texts) name text have is = (have.0, have-more files names texts name text have.1 is)
 
 pub gathers-next : {files : Option Files} {names rest : List (List ℕ)} {so_far : Result (List ModuleParts) BadText}
     (name : List ℕ) (read : Result ModuleParts UasmRefused) → Gathers files names (name ∷ rest) so_far → IsRead (told files name) read
@@ -74,32 +87,58 @@ gathers-next {files} {names} {rest} {so_far} name read gathers is = record {
         all.2 ∙ sym (both-assoc so_far (of_file name (assembled (Some text_limit) is.0)) (modules_of rest texts))
             ∙ ap (λ (r : Result ModuleParts UasmRefused). both (both so_far (of_file name r)) (modules_of rest texts)) (sym is.2),
       );
-  among = λ other in_rest. gathers.among other (inr in_rest);
+  before = gathers.before ++ name ∷ [];
+  split = gathers.split ∙ sym (append_assoc gathers.before (name ∷ []) rest);
+  texts = gathers.texts ++ is.0 ∷ [];
+  have = have-more files gathers.before gathers.texts name is.0 gathers.have is.1;
 }
 
 pub gathers-end : {files : Option Files} {names : List (List ℕ)} {so_far : Result (List ModuleParts) BadText}
     → Gathers files names [] so_far → ReadTo files names so_far
 gathers-end {so_far = so_far} gathers = let all = gathers.more [] tt in (all.0, all.1, sym (all.2 ∙ both-end so_far))
 
+-- no file was read
+pub gathers-none : (files : Option Files) (names : List (List ℕ)) (modules : List ModuleParts) → modules ≡ [] → Gathers files names names (Ok modules)
+gathers-none files names modules none = subst (λ (ms : List ModuleParts). Gathers files names names (Ok ms)) (sym none) (gathers-start files names)
+
 -- ---- a file that was not read
 
 pub rose-later : (before mid now : ℕ) → before ≤ mid → Rose mid now → Rose before now
 rose-later before mid now later rose = omega (arith, later, rose)
 
-pub not_read : (files : Option Files) (before mid now : ℕ) (names : List (List ℕ)) (answer : Answer) (name : List ℕ) → before ≤ mid → IsAmong names name
+-- the file that the rest begins with is the next
+pub gathers-next_file : {files : Option Files} {names rest : List (List ℕ)} {so_far : Result (List ModuleParts) BadText}
+    (name : List ℕ) (more : List (List ℕ)) → rest ≡ name ∷ more → Gathers files names rest so_far → IsNext files names name
+gathers-next_file name more split gathers = record {
+  before = gathers.before;
+  after = more;
+  split = gathers.split ∙ ap (λ (ns : List (List ℕ)). gathers.before ++ ns) split;
+  texts = gathers.texts;
+  have = gathers.have;
+}
+
+pub not_read : (files : Option Files) (before mid now : ℕ) (names : List (List ℕ)) (answer : Answer) (name : List ℕ) → before ≤ mid → IsNext files names name
     → Fails mid now (told files name) answer → LinkFails files before now names answer name
-not_read files before mid now names Unread name later among fails =
-    (among, ⊎_elim (λ rose. inl (rose-later before mid now later rose)) (λ none. inr none) fails)
-not_read files before mid now names NoMemory name later among fails = tt
-not_read files before mid now names Done name later among fails = absurd fails
-not_read files before mid now names Usage name later among fails = absurd fails
-not_read files before mid now names TooLong name later among fails = absurd fails
-not_read files before mid now names Fault name later among fails = absurd fails
-not_read files before mid now names (Spent kind) name later among fails = absurd fails
-not_read files before mid now names Bound name later among fails = absurd fails
-not_read files before mid now names EventFailed name later among fails = absurd fails
-not_read files before mid now names (Refused why) name later among fails = absurd fails
-not_read files before mid now names NotBuilt name later among fails = absurd fails
+not_read files before mid now names Unread name later next fails =
+    (next, ⊎_elim (λ rose. inl (rose-later before mid now later rose)) (λ none. inr none) fails)
+not_read files before mid now names NoMemory name later next fails = tt
+not_read files before mid now names Done name later next fails = absurd fails
+not_read files before mid now names Usage name later next fails = absurd fails
+not_read files before mid now names TooLong name later next fails = absurd fails
+not_read files before mid now names Fault name later next fails = absurd fails
+not_read files before mid now names (Spent kind) name later next fails = absurd fails
+not_read files before mid now names Bound name later next fails = absurd fails
+not_read files before mid now names EventFailed name later next fails = absurd fails
+not_read files before mid now names (Refused why) name later next fails = absurd fails
+not_read files before mid now names NotBuilt name later next fails = absurd fails
+
+-- the file that the rest begins with was not read
+pub next-not_read : (files : Option Files) (before mid now : ℕ) (names rest more : List (List ℕ)) (so_far : Result (List ModuleParts) BadText) (answer : Answer)
+    (name given : List ℕ) (file : Option (Option (List ℕ))) → before ≤ mid → rest ≡ name ∷ more → Gathers files names rest so_far
+    → file ≡ told files name → given ≡ name → Fails mid now file answer → LinkFails files before now names answer given
+next-not_read files before mid now names rest more so_far answer name given file later split gathers same called fails =
+    subst (λ (n : List ℕ). LinkFails files before now names answer n) (sym called)
+    (not_read files before mid now names answer name later (gathers-next_file name more split gathers) (subst (λ (f : Option (Option (List ℕ))). Fails mid now f answer) same fails))
 
 -- ---- one step of the walk
 

@@ -11,7 +11,7 @@ use Rattle.humus.specs.Outside.{Writes, Wrote, WroteFront, Said, Silent, TextIs}
 use Rattle.humus.specs.Report.{counts_line}
 use Rattle.humus.specs.Refusals.{refusal_line}
 use Rattle.humus.specs.Link.{HaveTexts, LinkTo, RefusedBy}
-use Rattle.humus.specs.Files.{IsAmong}
+use Rattle.humus.specs.Files.{IsNext}
 use Rattle.humus.specs.Load.{Loads, Unloaded}
 use Rattle.humus.specs.Exec.{IsOf, Runs}
 use Rattle.humus.specs.declared.keys.Keys.{Keys}
@@ -151,11 +151,11 @@ pub record Asks (c : Call) : Type 0 where
   pub command : Command
   pub asked : command_of c.words ≡ Some command
 
--- the words name a file, and the folder failed or is told to have no such file
+-- the files that the words name are read in order up to this one, where the folder failed or is told to have no such file
 pub record NotRead (c : Call) (name : List ℕ) : Type 0 where
   pub command : Command
   pub asked : command_of c.words ≡ Some command
-  pub named : IsAmong (files_of command) name
+  pub named : IsNext c.files (files_of command) name
   pub cause : Rose c.faults_old c.faults_new ⊎ (told c.files name ≡ Some None)
 
 -- the words run a file, and this holds of its text

@@ -1,5 +1,5 @@
 -- Turns to an end: what they write, and what they leave.
-use Rattle.std.specs.Prelude.{codes, ◌≡◌, ℕ, suc, ◌+◌, ◌≤◌, ◌%◌, nat_le, nat_lt, Bool, true, false, ◌&&◌, List, [], ◌∷◌, ◌++◌, length, slice_get, Option, None, Some}
+use Rattle.std.specs.Prelude.{codes, ◌≡◌, ℕ, suc, ◌+◌, ◌≤◌, ◌<◌, ◌%◌, nat_le, nat_lt, Bool, true, false, ◌&&◌, List, [], ◌∷◌, ◌++◌, length, slice_get, Option, None, Some}
 use Rattle.std.specs.List.{concat, filter, flat_map}
 use Rattle.hum_outside.specs.Outside.{Rose, AppendsFront, appended}
 use Rattle.hum_run.specs.declared.run.Report.{Report}
@@ -113,6 +113,10 @@ pub record AtRest (s : State) : Type 0 where
 abbrev pub is_reached : Option ℕ → State → Bool
 is_reached None s = false
 is_reached (Some bound) s = nat_le bound (length s.journal) && nat_lt 0 (length s.messages)
+
+-- before none of its turns from this one on was the bound reached
+abbrev pub Unreached : Option ℕ → ℕ → Machine → Type 0
+Unreached bound from m = (n : ℕ) → from ≤ n → n < m.turns → is_reached bound (drawn_run m.image m.grant m.state.lanes m.seed n) ≡ false
 
 -- the pick chooses an event of the root, which holds less of that kind than the event's instruction costs
 pub record FallsShort (s : State) (pick : ℕ) (kind : Quota) : Type 0 where

@@ -10,7 +10,7 @@ use Rattle.humus.specs.declared.keys.Keys.{Keys}
 use Rattle.humus.specs.declared.answer.Answer.{Answer}
 use Rattle.humus.specs.declared.answer.Answer.TheVariants as answer
 use Rattle.humus.specs.Outside.{Writes, Wrote}
-use Rattle.humus.specs.Drive.{IsRun, written_by, next_piece, entry_line, failed_lines, Stops, ending, count_of, is_failed}
+use Rattle.humus.specs.Drive.{IsRun, written_by, next_piece, entry_line, failed_lines, Stops, Unreached, ending, count_of, is_failed}
 
 -- the machine was booted from the image with these keys, and its state is that of its run
 pub record IsOf (keys : Keys) (image : RomImage) (m : Machine) : Type 0 where
@@ -20,20 +20,24 @@ pub record IsOf (keys : Keys) (image : RomImage) (m : Machine) : Type 0 where
   pub seed : m.seed ≡ keys.seed
   pub run : IsRun m
 
--- no further turn was taken: out has all that the machine wrote, and err the lines of its failed events and those that end the run
+-- no further turn was taken, and none where the bound was reached: out has all that the machine wrote, and err the lines of its failed
+-- events and those that end the run
 pub record Ended (bound : Option ℕ) (stop : Stop) (m : Machine) (out err : Writes) : Type 0 where
   pub stops : Stops bound stop m
+  pub unreached : Unreached bound 0 m
   pub output : Wrote out (written_by m)
   pub lines : Wrote err (failed_lines m.state.journal ++ ending stop m.state)
 
 -- a write of an event failed: out has also a front of what the next turn writes, and err the lines of the failed events
-pub record FailedOut (m : Machine) (out err : Writes) : Type 0 where
+pub record FailedOut (bound : Option ℕ) (m : Machine) (out err : Writes) : Type 0 where
+  pub unreached : Unreached bound 0 m
   pub output : AppendsFront (appended out.old (written_by m)) out.new (next_piece m)
   pub rose : Rose out.faults_old out.faults_new
   pub lines : Wrote err (failed_lines m.state.journal)
 
 -- the line of the last entry failed: err has the lines before it and a front of it
-pub record FailedErr (m : Machine) (out err : Writes) : Type 0 where
+pub record FailedErr (bound : Option ℕ) (m : Machine) (out err : Writes) : Type 0 where
+  pub unreached : Unreached bound 0 m
   pub entries : List Entry
   pub last : Entry
   pub journal : m.state.journal ≡ entries ++ last ∷ []
@@ -45,6 +49,7 @@ pub record FailedErr (m : Machine) (out err : Writes) : Type 0 where
 pub record FailedEnd (bound : Option ℕ) (m : Machine) (out err : Writes) : Type 0 where
   pub stop : Stop
   pub stops : Stops bound stop m
+  pub unreached : Unreached bound 0 m
   pub output : Wrote out (written_by m)
   pub lines : AppendsFront (appended err.old (failed_lines m.state.journal)) err.new (ending stop m.state)
   pub rose : Rose err.faults_old err.faults_new
@@ -59,11 +64,12 @@ Runs answer.Done bound m out err = (failures m ≡ 0) × Ended bound stop.Rest m
 Runs answer.EventFailed bound m out err = (0 < failures m) × Ended bound stop.Rest m out err
 Runs answer.Bound bound m out err = Ended bound stop.Bound m out err
 Runs (answer.Spent kind) bound m out err = Ended bound (stop.Spent kind) m out err
-Runs answer.Fault bound m out err = FailedOut m out err ⊎ FailedErr m out err ⊎ FailedEnd bound m out err
+Runs answer.Fault bound m out err = FailedOut bound m out err ⊎ FailedErr bound m out err ⊎ FailedEnd bound m out err
 Runs answer bound m out err = ⊥
 
 -- what the machine is before its first turn: it wrote nothing, its journal is empty, and the root did not run out
 pub record Fresh (m : Machine) : Type 0 where
+  pub turns : m.turns ≡ 0
   pub wrote : written_by m ≡ []
   pub journal : m.state.journal ≡ []
   pub not_out : m.state.out_of ≡ None

@@ -1,5 +1,5 @@
 -- What the parts of `link` answer.
-use Rattle.std.specs.Prelude.{◌≡◌, ◌⊎◌, ℕ, List, [], ◌∷◌, Option, None, Some, Result, Ok, Err}
+use Rattle.std.specs.Prelude.{◌≡◌, ◌⊎◌, ℕ, List, ◌∷◌, ◌++◌, Option, None, Some, Result, Ok, Err}
 use Rattle.hum_outside.specs.Outside.{Files, told, Rose}
 use Rattle.quad_memory.specs.Image.{RomImage}
 use Rattle.uasm_read.specs.declared.error.UasmRefused.{UasmRefused}
@@ -14,10 +14,13 @@ use Rattle.humus.specs.declared.link.Gathered.{Gathered}
 use Rattle.humus.specs.Outside.{TextIs}
 use Rattle.humus.specs.Link.{HaveTexts, BadText, modules_of, link_refusal, LinkTo, RefusedBy}
 
--- a list has the name
-abbrev pub IsAmong : List (List ℕ) → List ℕ → Type 0
-IsAmong [] name = ⊥
-IsAmong (other ∷ names) name = (other ≡ name) ⊎ IsAmong names name
+-- files are read in order, and the next is the one of that name: none of those before it is told to be absent
+pub record IsNext (files : Option Files) (names : List (List ℕ)) (name : List ℕ) : Type 0 where
+  pub before : List (List ℕ)
+  pub after : List (List ℕ)
+  pub split : names ≡ before ++ name ∷ after
+  pub texts : List (List ℕ)
+  pub have : HaveTexts files before texts
 
 -- why a file was not read
 abbrev pub Fails : ℕ → ℕ → Option (Option (List ℕ)) → Answer → Type 0
@@ -58,7 +61,7 @@ LinkBytes files names bytes =
 
 -- why files are not linked, with the name of the file of which it is told
 abbrev pub LinkFails : Option Files → ℕ → ℕ → List (List ℕ) → Answer → List ℕ → Type 0
-LinkFails files before now names answer.Unread name = IsAmong names name × (Rose before now ⊎ (told files name ≡ Some None))
+LinkFails files before now names answer.Unread name = IsNext files names name × (Rose before now ⊎ (told files name ≡ Some None))
 LinkFails files before now names answer.NoMemory name = Unit {0}
 LinkFails files before now names (answer.Refused why) name = (texts : List (List ℕ)) × HaveTexts files names texts × RefusedBy names texts why name
 LinkFails files before now names answer name = ⊥

@@ -1,7 +1,7 @@
 // Turns to an end, with the lines of the events that fail.
-ghost use Rattle.std.specs.Prelude.{◌≡◌, ◌≤◌, None, IfOk, IfErr, OnOk, OnErr};
+ghost use Rattle.std.specs.Prelude.{◌≡◌, ◌≤◌, ◌+◌, None, IfOk, IfErr, OnOk, OnErr};
 ghost use Rattle.hum_outside.specs.Outside.{HasCause, AppendsFront, appended};
-ghost use Rattle.humus.specs.Drive.{IsRun, Drives, Breaks, RoseOn, Stops, Goes, is_reached, entry_line, turn_line, stop_of, kind_name, spent_line, ending, count_of, is_committed, is_failed, is_ran_out, report_of_machine};
+ghost use Rattle.humus.specs.Drive.{IsRun, Drives, Breaks, RoseOn, Stops, Unreached, Goes, is_reached, entry_line, turn_line, stop_of, kind_name, spent_line, ending, count_of, is_committed, is_failed, is_ran_out, report_of_machine};
 ghost use Rattle.humus.specs.Report.{counts_line};
 ghost use Rattle.vm_turn.specs.declared.journal.Entry.{Entry as Ended};
 ghost use Rattle.vm_turn.specs.declared.journal.Turn.TheVariants.{Finished};
@@ -86,6 +86,7 @@ fn step_once<K: Sink>(
     requires not_out { machine.old.state.out_of ≡ None }
     ensures drives { IfOk result (λ stop. Drives machine.old machine.new (K.written out.old) (K.written out.new) (K.written err.old) (K.written err.new)) }
     ensures goes { IfOk result (λ stop. Goes stop machine.old machine.new) }
+    ensures one_turn { machine.new.turns ≤ machine.old.turns + 1 }
     ensures breaks { IfErr result (λ fault. Breaks fault.on_err machine.old machine.new (K.written out.old) (K.written out.new) (K.written err.old) (K.written err.new)) }
     ensures rose { IfErr result (λ fault. RoseOn fault.on_err (K.faults out.old) (K.faults out.new) (K.faults err.old) (K.faults err.new)) }
     ensures out_later { K.faults out.old ≤ K.faults out.new }
@@ -100,8 +101,8 @@ fn step_once<K: Sink>(
     }
 }
 
-/// Takes turns until none is left to take or the bound is reached, and writes the line of each event that failed to `err`. It takes no
-/// memory.
+/// Takes turns until none is left to take or the bound is reached, and writes the line of each event that failed to `err`. Where the
+/// bound is reached no turn is taken. It takes no memory.
 ///
 /// `WriteFault` comes only where the count of that sink rose. Where `out` failed, the event is unfinished, and a front of what it writes
 /// was written; where `err` failed, it is finished, and a front of its line was written.
@@ -114,6 +115,7 @@ pub fn drive<K: Sink>(
     requires not_out { machine.old.state.out_of ≡ None }
     ensures drives { IfOk result (λ stop. Drives machine.old machine.new (K.written out.old) (K.written out.new) (K.written err.old) (K.written err.new)) }
     ensures stops { IfOk result (λ stop. Stops bound stop machine.new) }
+    ensures unreached { Unreached bound machine.old.turns machine.new }
     ensures breaks { IfErr result (λ fault. Breaks fault.on_err machine.old machine.new (K.written out.old) (K.written out.new) (K.written err.old) (K.written err.new)) }
     ensures rose { IfErr result (λ fault. RoseOn fault.on_err (K.faults out.old) (K.faults out.new) (K.faults err.old) (K.faults err.new)) }
     ensures out_later { K.faults out.old ≤ K.faults out.new }

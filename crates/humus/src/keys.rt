@@ -101,13 +101,14 @@ fn number_in(key: Key, words: &[String]) -> Option<u32>
     ensures value { result ≡ spec.number_in key (map string_bytes words.now) }
     ensures takes { IfSome result (λ n. spec.takes key n ≡ true) }
 {
-    match words {
-        [] => None,
-        [word, more @ ..] => match number_for(key, word.as_bytes()) {
-            Some(number) => Some(number),
-            None => number_in(key, more),
-        },
+    let mut rest = words;
+    while let [word, more @ ..] = rest {
+        if let Some(number) = number_for(key, word.as_bytes()) {
+            return Some(number);
+        }
+        rest = more;
     }
+    None
 }
 
 // Whether a word gives a number to a key that these words give none.

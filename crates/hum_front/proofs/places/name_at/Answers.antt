@@ -1,4 +1,4 @@
-use Rattle.std.proofs.Common.{arith, sym, ◌∙◌, subst}
+use Rattle.std.proofs.Common.{arith, subst}
 use Rattle.hum_syntax.specs.Places.{NameAt}
 use Rattle.hum_front.proofs.NamePlaces.{name_within, name_cut, refused_stands}
 use Rattle.hum_front.proofs.places.name_at.Goals as goal

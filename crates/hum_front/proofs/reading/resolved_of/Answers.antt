@@ -1,4 +1,4 @@
-use Rattle.std.proofs.Common.{◌≡◌, refl, sym, ◌∙◌, subst, arith, length}
+use Rattle.std.proofs.Common.{sym, ◌∙◌}
 use Rattle.hum_syntax.specs.Spells.{deepest}
 use Rattle.hum_syntax.specs.Tokens.{all_placed}
 use Rattle.hum_meaning.specs.Scope.{first_refused}

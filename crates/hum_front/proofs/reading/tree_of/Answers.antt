@@ -1,4 +1,4 @@
-use Rattle.std.proofs.Common.{◌≡◌, refl, sym, ◌∙◌, subst, arith, length}
+use Rattle.std.proofs.Common.{sym, subst, arith}
 use Rattle.hum_syntax.specs.Spells.{IsStmts, Spells, deepest}
 use Rattle.hum_syntax.specs.Tokens.{all_placed}
 use Rattle.hum_syntax.proofs.SizedTrees.{kinds_of-placed}

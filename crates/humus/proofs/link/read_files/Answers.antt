@@ -1,9 +1,16 @@
-use Rattle.std.proofs.Common.{◌∙◌, ap, arith, map, string_bytes, Global}
+use Rattle.std.proofs.Common.{◌∙◌, refl, ap, arith, map, string_bytes, Global}
 use Rattle.hum_outside.specs.Outside.{told}
 use Rattle.uasm_read.proofs.Fronts.{behind, front_item, no_item}
 use Rattle.humus.specs.Files.{gathered}
-use Rattle.humus.proofs.Gathers.{gathers-step, gathers-last}
+use Rattle.humus.proofs.Gathers.{gathers-none, gathers-step, gathers-last}
 use Rattle.humus.proofs.link.read_files.Goals as goal
+
+pub loop-rest-init : goal.loop-rest-init
+loop-rest-init g c = record {
+  gathers = gathers-none (g.F.Folder.files c.args.files.now) (map (string_bytes {Z = Global}) c.args.names.now) c.new.result.items c.new.ensures.items;
+  files = refl;
+  later = omega arith;
+}
 
 pub loop-rest-preserved : goal.loop-rest-preserved
 loop-rest-preserved g c =

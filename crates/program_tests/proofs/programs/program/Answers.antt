@@ -1,4 +1,4 @@
-use Rattle.std.proofs.Common.{◌≡◌, sym, ap, ◌∙◌, subst}
+use Rattle.std.proofs.Common.{sym, ap, ◌∙◌, subst}
 use Rattle.hum_core.specs.Lists.{tested}
 use Rattle.hum_emit.specs.Shapes.{shapes_of, ShapesFit}
 use Rattle.hum_emit.proofs.ShapeFiles.{shapes-fit}
