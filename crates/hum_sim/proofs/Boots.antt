@@ -76,15 +76,15 @@ module _ (lay : Layout) (image : RomImage) (program : HoldsProgram image.boot im
     rom_is = refl;
     code_out = boot_code_out image grant lanes;
     behaviours = record {
-     actors = (
-      record { code = image.boot; state = Ram 5; mark = undef; there = refl; idle = λ e. refl; behaves = (refl, inr (refl, program.boot_is, boot_devices, refl)) },
-      (
-        record { code = Fix (pos 0); state = undef; mark = undef; there = refl; idle = λ e. refl; behaves = (refl, refl) },
-        (record { code = Fix (pos 1); state = undef; mark = undef; there = refl; idle = λ e. refl; behaves = (refl, refl) }, tt),
-      ),
-    );
-     once = boot_once;
-     front = ([], refl);
+      actors = (
+        record { code = image.boot; state = Ram 5; mark = undef; there = refl; idle = λ e. refl; behaves = (refl, inr (refl, program.boot_is, boot_devices, refl)) },
+        (
+          record { code = Fix (pos 0); state = undef; mark = undef; there = refl; idle = λ e. refl; behaves = (refl, refl) },
+          (record { code = Fix (pos 1); state = undef; mark = undef; there = refl; idle = λ e. refl; behaves = (refl, refl) }, tt),
+        ),
+      );
+      once = boot_once;
+      front = ([], refl);
     };
     messages = (record { number = refl; target = first_actor; content = nil; there = refl; target_is = refl; value = boot_nil }, tt);
     next_number = refl;

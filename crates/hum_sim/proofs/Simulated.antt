@@ -16,7 +16,6 @@ use Rattle.vm_devices.specs.declared.delivery.WriteFault.{WriteFault}
 use Rattle.vm_turn.specs.declared.journal.Turn.{Turn as Answer}
 use Rattle.vm_machine.specs.Machine.{Machine, turns_by}
 use Rattle.vm_machine.specs.View.{unwritten}
-use Rattle.vm_machine.proofs.Continued.{run-next}
 use Rattle.hum_syntax.specs.declared.Tree.{Tree}
 use Rattle.hum_meaning.specs.Scope.{Scoped}
 use Rattle.hum_meaning.specs.Deliver.{Configuration}
@@ -69,9 +68,18 @@ spending_more : (x : Spending) (s : State) (ps : List ℕ) (p : ℕ) → spendin
 spending_more x s [] p = refl
 spending_more x s (q ∷ ps) p = spending_more (turn_spending x s q) (turn s q).0 ps p
 
-spent-next : (image : RomImage) (grant : Amounts) (lanes seed n : ℕ)
+after_more : (s : State) (ps : List ℕ) (p : ℕ) → after s (ps ++ p ∷ []) ≡ (turn (after s ps) p).0
+after_more s [] p = refl
+after_more s (q ∷ ps) p = after_more (turn s q).0 ps p
+
+run_next : (image : RomImage) (grant : Amounts) (lanes seed n : ℕ)
+    → run image grant lanes (picks seed (suc n)) ≡ (turn (run image grant lanes (picks seed n)) (pick_of (drawn (drawn_after seed n)))).0
+run_next image grant lanes seed n =
+    ap (λ (ps : List ℕ). run image grant lanes ps) (picks-next seed n) ∙ after_more (booted image grant lanes) (picks seed n) (pick_of (drawn (drawn_after seed n)))
+
+spent_next : (image : RomImage) (grant : Amounts) (lanes seed n : ℕ)
     → spent_in_run image grant lanes (picks seed (suc n)) ≡ turn_spending (spent_in_run image grant lanes (picks seed n)) (run image grant lanes (picks seed n)) (pick_of (drawn (drawn_after seed n)))
-spent-next image grant lanes seed n =
+spent_next image grant lanes seed n =
     ap (λ (ps : List ℕ). spent_in_run image grant lanes ps) (picks-next seed n)
     ∙ spending_more none_spent (booted image grant lanes) (picks seed n) (pick_of (drawn (drawn_after seed n)))
 
@@ -100,8 +108,8 @@ module _ (s : Sim) (is : RunsItsImage s) (c : Configuration (Named written)) whe
       = turns_keep_the_standing (file_of s) m.image (layout_in s) m.grant (spending_of s) (state_of s) c
       (record { sound = run-sound m.image m.grant m.state.lanes (picks m.seed m.turns); stands = h }) pick in
       let y : Next (spent_in_run m.image m.grant m.state.lanes (picks m.seed (suc m.turns))) (run m.image m.grant m.state.lanes (picks m.seed (suc m.turns)))
-      = subst (λ (z : Spending). Next z (run m.image m.grant m.state.lanes (picks m.seed (suc m.turns)))) (sym (spent-next m.image m.grant m.state.lanes m.seed m.turns))
-      (subst (λ (t : State). Next (turn_spending (spending_of s) (state_of s) pick) t) (sym (run-next m.image m.grant m.state.lanes m.seed m.turns))
+      = subst (λ (z : Spending). Next z (run m.image m.grant m.state.lanes (picks m.seed (suc m.turns)))) (sym (spent_next m.image m.grant m.state.lanes m.seed m.turns))
+      (subst (λ (t : State). Next (turn_spending (spending_of s) (state_of s) pick) t) (sym (run_next m.image m.grant m.state.lanes m.seed m.turns))
       (x.configuration, x.keeps.stands, x.step)) in
       record { configuration = y.0; stands = y.1; step = y.2 }
 
@@ -115,12 +123,15 @@ module _ (s : Sim) (is : RunsItsImage s) (c : Configuration (Named written)) whe
       (subst (λ (z : ℕ). At m.image m.grant m.state.lanes z t.turns) (sym d)
       (subst (λ (z : ℕ). At m.image m.grant m.state.lanes m.seed z) (sym k) a))))
 
+abbrev counted : Bool → ℕ
+counted b = if b then 1 else 0
+
 -- a call completes one turn or none
 few_turns : (out : Option Quota) (r : Result Answer WriteFault) → (turns_by out r ≡ 0) ⊎ (turns_by out r ≡ 1)
 few_turns out (Err fault) = inl refl
 few_turns out (Ok a) = by (unless_out out (not_rest a))
   where
-    by : (b : Bool) → ((if b then 1 else 0) ≡ 0) ⊎ ((if b then 1 else 0) ≡ 1)
+    by : (b : Bool) → (counted b ≡ 0) ⊎ (counted b ≡ 1)
     by true = inr refl
     by false = inl refl
 

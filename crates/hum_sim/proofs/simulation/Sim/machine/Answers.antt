@@ -5,14 +5,14 @@ use Rattle.hum_sim.proofs.Simulated.{stands, completes}
 use Rattle.hum_sim.proofs.simulation.Sim.machine.Goals as goal
 
 pub returns-clause-image : goal.returns-clause-image
-returns-clause-image c = subst (λ (x : Sim). x.machine.image ≡ x.compiled.image) c.self.view_is c.self.invariant.image_is
+returns-clause-image c = subst (λ (x : Sim). c.self.inside.machine.image ≡ x.compiled.image) c.self.view_is c.self.invariant.image_is
 
 pub returns-clause-stands : goal.returns-clause-stands
 returns-clause-stands c =
     let m = c.self.inside.machine in
     let s : Sim = record { compiled = c.self.inside.compiled; machine = m } in
     subst Stands c.self.view_is
-    (stands s c.self.invariant (subst (λ (n : ℕ). m.state ≡ drawn_run m.image m.grant m.state.lanes m.seed n) c.turns.ensures.value c.turns.ensures.run))
+    (stands s c.self.invariant (subst (λ (n : ℕ). m.state ≡ drawn_run m.image m.grant m.state.lanes m.seed n) c.turns-turns.ensures.value c.turns-turns.ensures.run))
 
 pub returns-clause-completes : goal.returns-clause-completes
 returns-clause-completes c one =
