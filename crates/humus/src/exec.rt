@@ -1,5 +1,5 @@
 // The command `exec`.
-ghost use Rattle.std.specs.Prelude.{IfOk};
+ghost use Rattle.std.specs.Prelude.{◌≤◌, IfOk};
 ghost use Rattle.quad_memory.specs.Image.{RomImage};
 ghost use Rattle.humus.specs.Outside.{writes};
 ghost use Rattle.humus.specs.Keys.{WithinLimits};
@@ -55,6 +55,8 @@ pub fn run_machine<K: Sink>(machine: &mut Machine, keys: Keys, out: &mut K, err:
         (writes (K.written out.old) (K.written out.new) (K.faults out.old) (K.faults out.new))
         (writes (K.written err.old) (K.written err.new) (K.faults err.old) (K.faults err.new)) }
     ensures of { (image : RomImage) → IsOf keys image machine.old → IsOf keys image machine.new }
+    ensures out_later { K.faults out.old ≤ K.faults out.new }
+    ensures err_later { K.faults err.old ≤ K.faults err.new }
 {
     let stop = match drive(machine, keys.bound, out, err) {
         Ok(stop) => stop,

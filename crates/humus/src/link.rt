@@ -98,6 +98,8 @@ fn read_files<'a, F: Folder>(
 ) -> Result<Gathered<'a>, Refused<'a>>
     ensures read { IfOk result (λ all. ReadTo (F.files files.old) (map string_bytes names.now) (gathered all)) }
     ensures fails { IfErr result (λ r. LinkFails (F.files files.old) (F.faults files.old) (F.faults files.new) (map string_bytes names.now) r.answer r.name.now) }
+    ensures files { F.files files.new ≡ F.files files.old }
+    ensures later { F.faults files.old ≤ F.faults files.new }
 {
     let mut all = Gathered {
         modules: Vec::new(alloc),
@@ -168,6 +170,8 @@ pub fn link_files<'a, F: Folder>(
 ) -> Result<Vec<u8>, Refused<'a>>
     ensures bytes { IfOk result (λ bytes. LinkBytes (F.files files.old) (map string_bytes names.now) bytes.items) }
     ensures fails { IfErr result (λ r. LinkFails (F.files files.old) (F.faults files.old) (F.faults files.new) (map string_bytes names.now) r.answer r.name.now) }
+    ensures files { F.files files.new ≡ F.files files.old }
+    ensures later { F.faults files.old ≤ F.faults files.new }
 {
     let all = match read_files(alloc, files, names) {
         Ok(all) => all,

@@ -60,6 +60,8 @@ fn load(alloc: Global, bytes: &[u8]) -> Result<Image, Answer>
 pub fn load_file<F: Folder>(alloc: Global, files: &mut F, name: &str) -> Result<Image, Answer>
     ensures image { IfOk result (λ image. (bytes : List ℕ) × TextIs (λ told. told ≡ bytes) (told (F.files files.old) name.now) × Loads bytes image) }
     ensures fails { IfErr result (FileFails (F.faults files.old) (F.faults files.new) (told (F.files files.old) name.now)) }
+    ensures files { F.files files.new ≡ F.files files.old }
+    ensures later { F.faults files.old ≤ F.faults files.new }
 {
     let bytes = match read_all(alloc, files, name, FILE_LIMIT) {
         Ok(bytes) => bytes,

@@ -1,5 +1,5 @@
 // The lines on err.
-ghost use Rattle.std.specs.Prelude.{◌≡◌, ◌∷◌, [], codes, OnOk, OnErr};
+ghost use Rattle.std.specs.Prelude.{◌≡◌, ◌≤◌, ◌∷◌, [], codes, OnOk, OnErr};
 ghost use Rattle.std.specs.List.{concat, flat_map};
 ghost use Rattle.hum_outside.specs.Outside.{HasCause, AppendsFront, appended};
 ghost use Rattle.humus.specs.Report.{counts_line};
@@ -41,7 +41,8 @@ pub fn put_counts<K: Sink>(sink: &mut K, report: Report) -> Result<(), Failed>
 
 /// Writes the line of a refusal, if it has one. A fault is let pass: the refusal's status tells more.
 pub fn refuse<K: Sink>(err: &mut K, answer: &Answer, name: &str)
-    ensures { Said (writes (K.written err.old) (K.written err.new) (K.faults err.old) (K.faults err.new)) (line_of answer.now name.now) }
+    ensures later { K.faults err.old ≤ K.faults err.new }
+    ensures said { Said (writes (K.written err.old) (K.written err.new) (K.faults err.old) (K.faults err.new)) (line_of answer.now name.now) }
 {
     let name = name.as_bytes();
     match answer {
@@ -57,7 +58,8 @@ pub fn refuse<K: Sink>(err: &mut K, answer: &Answer, name: &str)
 
 // Writes the line of refused contents.
 fn refuse_contents<K: Sink>(err: &mut K, why: &Refusal, name: &[u8])
-    ensures { Said (writes (K.written err.old) (K.written err.new) (K.faults err.old) (K.faults err.new)) (refusal_line why.now name.now) }
+    ensures later { K.faults err.old ≤ K.faults err.new }
+    ensures said { Said (writes (K.written err.old) (K.written err.new) (K.faults err.old) (K.faults err.new)) (refusal_line why.now name.now) }
 {
     match why {
         Refusal::FileTooLong => say(err, &[name, b": file too long\n"]),
@@ -80,14 +82,16 @@ fn refuse_contents<K: Sink>(err: &mut K, why: &Refusal, name: &[u8])
 
 // Writes what is said of a line of the file of that name.
 fn say_at<'a, K: Sink>(err: &mut K, name: &'a [u8], line: &'a [u8], cause: &'a [u8])
-    ensures { Said (writes (K.written err.old) (K.written err.new) (K.faults err.old) (K.faults err.new)) (concat (name.now ∷ codes ":" ∷ line.now ∷ codes ": " ∷ cause.now ∷ codes "\n" ∷ [])) }
+    ensures later { K.faults err.old ≤ K.faults err.new }
+    ensures said { Said (writes (K.written err.old) (K.written err.new) (K.faults err.old) (K.faults err.new)) (concat (name.now ∷ codes ":" ∷ line.now ∷ codes ": " ∷ cause.now ∷ codes "\n" ∷ [])) }
 {
     say(err, &[name, b":", line, b": ", cause, b"\n"]);
 }
 
 // Writes what is said of a place in the image of that name.
 fn say_image<'a, K: Sink>(err: &mut K, name: &'a [u8], at: &'a [u8], cause: &'a [u8])
-    ensures { Said (writes (K.written err.old) (K.written err.new) (K.faults err.old) (K.faults err.new)) (concat (name.now ∷ codes ": image refused at " ∷ at.now ∷ codes ": " ∷ cause.now ∷ codes "\n" ∷ [])) }
+    ensures later { K.faults err.old ≤ K.faults err.new }
+    ensures said { Said (writes (K.written err.old) (K.written err.new) (K.faults err.old) (K.faults err.new)) (concat (name.now ∷ codes ": image refused at " ∷ at.now ∷ codes ": " ∷ cause.now ∷ codes "\n" ∷ [])) }
 {
     say(
         err,
@@ -97,7 +101,8 @@ fn say_image<'a, K: Sink>(err: &mut K, name: &'a [u8], at: &'a [u8], cause: &'a 
 
 // Writes a line, and lets a fault pass.
 fn say<K: Sink>(sink: &mut K, parts: &[&[u8]])
-    ensures { Said (writes (K.written sink.old) (K.written sink.new) (K.faults sink.old) (K.faults sink.new)) (flat_map (λ part. part.now) parts.now) }
+    ensures later { K.faults sink.old ≤ K.faults sink.new }
+    ensures said { Said (writes (K.written sink.old) (K.written sink.new) (K.faults sink.old) (K.faults sink.new)) (flat_map (λ part. part.now) parts.now) }
 {
     let _ = put_parts(sink, parts);
 }

@@ -18,6 +18,8 @@ const TEXT_LIMIT: u64 = 1_048_576;
 pub fn load_run<F: Folder>(alloc: Global, files: &mut F, name: &str) -> Result<Run, Answer>
     ensures started { IfOk result (λ run. (numbers : List ℤ) × (run ≡ started numbers) × Sends (told (F.files files.old) name.now) numbers) }
     ensures fails { IfErr result (RunFails (F.faults files.old) (F.faults files.new) (told (F.files files.old) name.now)) }
+    ensures files { F.files files.new ≡ F.files files.old }
+    ensures later { F.faults files.old ≤ F.faults files.new }
 {
     let bytes = match read_all(alloc, files, name, TEXT_LIMIT) {
         Ok(bytes) => bytes,
@@ -41,6 +43,8 @@ pub fn finish<K: Sink>(run: &mut Run, out: &mut K, err: &mut K) -> Result<(), Fa
     ensures breaks { (numbers : List ℤ) → run.old ≡ started numbers → OnErr result (BreaksOff run.new
         (writes (K.written out.old) (K.written out.new) (K.faults out.old) (K.faults out.new))
         (writes (K.written err.old) (K.written err.new) (K.faults err.old) (K.faults err.new)) numbers) }
+    ensures out_later { K.faults out.old ≤ K.faults out.new }
+    ensures err_later { K.faults err.old ≤ K.faults err.new }
 {
     match run.advance(None, out, err) {
         Ok(Stop::Rest) => put_counts(err, run.report()),

@@ -36,7 +36,7 @@ fn run_text<F: Folder, K: Sink>(
     err: &mut K,
     last: &mut Record,
 ) -> Answer
-    ensures { (words : List (List ℕ)) → asked.command_of words ≡ Some (asked.Run name.now) → Answered result (record {
+    ensures answered { (words : List (List ℕ)) → asked.command_of words ≡ Some (asked.Run name.now) → Answered result (record {
       words = words;
       files = F.files files.old;
       faults_old = F.faults files.old;
@@ -46,6 +46,10 @@ fn run_text<F: Folder, K: Sink>(
       last_old = last.old;
       last_new = last.new;
     }) }
+    ensures files { F.files files.new ≡ F.files files.old }
+    ensures files_later { F.faults files.old ≤ F.faults files.new }
+    ensures out_later { K.faults out.old ≤ K.faults out.new }
+    ensures err_later { K.faults err.old ≤ K.faults err.new }
 {
     match load_run(alloc, files, name) {
         Err(answer) => {
@@ -72,7 +76,7 @@ fn link_to<F: Folder, K: Sink>(
     out: &mut K,
     err: &mut K,
 ) -> Answer
-    ensures { (words : List (List ℕ)) (last : AnyRecord) →
+    ensures answered { (words : List (List ℕ)) (last : AnyRecord) →
         asked.command_of words ≡ Some (asked.Link (map string_bytes names.now)) → Answered result (record {
           words = words;
           files = F.files files.old;
@@ -83,6 +87,10 @@ fn link_to<F: Folder, K: Sink>(
           last_old = last;
           last_new = last;
         }) }
+    ensures files { F.files files.new ≡ F.files files.old }
+    ensures files_later { F.faults files.old ≤ F.faults files.new }
+    ensures out_later { K.faults out.old ≤ K.faults out.new }
+    ensures err_later { K.faults err.old ≤ K.faults err.new }
 {
     match link_files(alloc, files, names) {
         Err(refused) => {
@@ -107,7 +115,7 @@ fn exec_file<F: Folder, K: Sink>(
     last: &mut Record,
 ) -> Answer
     requires { WithinLimits keys }
-    ensures { (words : List (List ℕ)) → asked.command_of words ≡ Some (asked.Exec name.now keys) → Answered result (record {
+    ensures answered { (words : List (List ℕ)) → asked.command_of words ≡ Some (asked.Exec name.now keys) → Answered result (record {
       words = words;
       files = F.files files.old;
       faults_old = F.faults files.old;
@@ -117,6 +125,10 @@ fn exec_file<F: Folder, K: Sink>(
       last_old = last.old;
       last_new = last.new;
     }) }
+    ensures files { F.files files.new ≡ F.files files.old }
+    ensures files_later { F.faults files.old ≤ F.faults files.new }
+    ensures out_later { K.faults out.old ≤ K.faults out.new }
+    ensures err_later { K.faults err.old ≤ K.faults err.new }
 {
     let image = match load_file(alloc, files, name) {
         Ok(image) => image,
@@ -148,7 +160,7 @@ fn answer<F: Folder, K: Sink>(
     err: &mut K,
     last: &mut Record,
 ) -> Answer
-    ensures { Answered result (record {
+    ensures answered { Answered result (record {
       words = map string_bytes words.now;
       files = F.files files.old;
       faults_old = F.faults files.old;
@@ -158,6 +170,10 @@ fn answer<F: Folder, K: Sink>(
       last_old = last.old;
       last_new = last.new;
     }) }
+    ensures files { F.files files.new ≡ F.files files.old }
+    ensures files_later { F.faults files.old ≤ F.faults files.new }
+    ensures out_later { K.faults out.old ≤ K.faults out.new }
+    ensures err_later { K.faults err.old ≤ K.faults err.new }
 {
     match command_of(words) {
         None => {
@@ -219,6 +235,12 @@ pub fn humus_main<F: Folder, K: Sink>(
         ¬ (Rose (F.faults files.old) (F.faults files.new)) →
         ¬ (Rose (K.faults out.old) (K.faults out.new)) →
         ¬ (Rose (K.faults err.old) (K.faults err.new)) → EndsRun keys.bound result }
+
+    // The folder tells the files that it told, and no count fell.
+    ensures files { F.files files.new ≡ F.files files.old }
+    ensures files_later { F.faults files.old ≤ F.faults files.new }
+    ensures out_later { K.faults out.old ≤ K.faults out.new }
+    ensures err_later { K.faults err.old ≤ K.faults err.new }
 {
     let answer = answer(alloc, words, files, out, err, last);
     answer.status()

@@ -3,8 +3,8 @@ use Rattle.humus.specs.Outside.{writes}
 use Rattle.humus.proofs.Causes.{declined_exec, executed}
 use Rattle.humus.proofs.top.exec_file.Goals as goal
 
-pub returns-in-Err : goal.returns-in-Err
-returns-in-Err g c = λ words asked.
+pub returns-in-Err-clause-answered : goal.returns-in-Err-clause-answered
+returns-in-Err-clause-answered g c = λ words asked.
     let w = g.K.Sink.written in
     let f = g.K.Sink.faults in
     declined_exec c.in-Err.answer (record {
@@ -17,10 +17,10 @@ returns-in-Err g c = λ words asked.
       last_old = c.args.last.now;
       last_new = c.args.last.now;
     }) c.args.name.now c.args.keys asked c.in-Err.ensures.fails
-    (record { line = c.refuse.ensures; out = refl {a = w c.args.out.now}; last = refl {a = c.args.last.now} })
+    (record { line = c.refuse.ensures.said; out = refl {a = w c.args.out.now}; last = refl {a = c.args.last.now} })
 
-pub returns-in-Ok-booted : goal.returns-in-Ok-booted
-returns-in-Ok-booted g c = λ words asked.
+pub returns-in-Ok-booted-clause-answered : goal.returns-in-Ok-booted-clause-answered
+returns-in-Ok-booted-clause-answered g c = λ words asked.
     let w = g.K.Sink.written in
     let f = g.K.Sink.faults in
     let loaded = c.in-Ok.ensures.image in

@@ -16,7 +16,7 @@ returns-clause-complete g c = λ name bytes numbers asked is short form no_fault
       err = writes (w c.args.err.now) (w c.answer-answer.new.err) (f c.args.err.now) (f c.answer-answer.new.err);
       last_old = c.args.last.now;
       last_new = c.answer-answer.new.last;
-    }) name bytes numbers asked is short form no_fault no_out no_err c.answer-answer.ensures)
+    }) name bytes numbers asked is short form no_fault no_out no_err c.answer-answer.ensures.answered)
 
 pub returns-clause-links : goal.returns-clause-links
 returns-clause-links g c = λ names texts modules asked are read sound no_fault no_out.
@@ -31,7 +31,7 @@ returns-clause-links g c = λ names texts modules asked are read sound no_fault 
       err = writes (w c.args.err.now) (w c.answer-answer.new.err) (f c.args.err.now) (f c.answer-answer.new.err);
       last_old = c.args.last.now;
       last_new = c.answer-answer.new.last;
-    }) names texts modules asked are read sound no_fault no_out c.answer-answer.ensures)
+    }) names texts modules asked are read sound no_fault no_out c.answer-answer.ensures.answered)
 
 pub returns-clause-runs : goal.returns-clause-runs
 returns-clause-runs g c = λ name bytes keys image asked is loads no_fault no_out no_err.
@@ -46,4 +46,4 @@ returns-clause-runs g c = λ name bytes keys image asked is loads no_fault no_ou
       err = writes (w c.args.err.now) (w c.answer-answer.new.err) (f c.args.err.now) (f c.answer-answer.new.err);
       last_old = c.args.last.now;
       last_new = c.answer-answer.new.last;
-    }) name bytes keys image asked is loads no_fault no_out no_err c.answer-answer.ensures)
+    }) name bytes keys image asked is loads no_fault no_out no_err c.answer-answer.ensures.answered)

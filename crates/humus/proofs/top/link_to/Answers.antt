@@ -4,8 +4,8 @@ use Rattle.humus.specs.Outside.{writes}
 use Rattle.humus.proofs.Causes.{declined_link}
 use Rattle.humus.proofs.top.link_to.Goals as goal
 
-pub returns-in-Err : goal.returns-in-Err
-returns-in-Err g c = λ words last asked.
+pub returns-in-Err-clause-answered : goal.returns-in-Err-clause-answered
+returns-in-Err-clause-answered g c = λ words last asked.
     let w = g.K.Sink.written in
     let f = g.K.Sink.faults in
     declined_link c.in-Err.refused.answer (record {
@@ -18,10 +18,10 @@ returns-in-Err g c = λ words last asked.
       last_old = last;
       last_new = last;
     }) (map (string_bytes {Z = Global}) c.args.names.now) c.in-Err.refused.name.now asked c.in-Err.ensures.fails
-    (record { line = c.refuse.ensures; out = refl {a = w c.args.out.now}; last = refl {a = last} })
+    (record { line = c.refuse.ensures.said; out = refl {a = w c.args.out.now}; last = refl {a = last} })
 
-pub returns-in-Ok-put_all : goal.returns-in-Ok-put_all
-returns-in-Ok-put_all g c = λ words last asked.
+pub returns-in-Ok-put_all-clause-answered : goal.returns-in-Ok-put_all-clause-answered
+returns-in-Ok-put_all-clause-answered g c = λ words last asked.
     let linked = c.in-Ok.ensures.bytes in
     inr (inl (record {
       names = map (string_bytes {Z = Global}) c.args.names.now;
@@ -35,8 +35,8 @@ returns-in-Ok-put_all g c = λ words last asked.
       last = refl {a = last};
     }))
 
-pub returns : goal.returns
-returns g c = λ words last asked.
+pub returns-clause-answered : goal.returns-clause-answered
+returns-clause-answered g c = λ words last asked.
     let w = g.K.Sink.written in
     let linked = c.in-Ok.ensures.bytes in
     inr (inl (record {

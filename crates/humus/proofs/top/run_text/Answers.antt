@@ -3,8 +3,8 @@ use Rattle.humus.specs.Outside.{writes}
 use Rattle.humus.proofs.Causes.{declined_run}
 use Rattle.humus.proofs.top.run_text.Goals as goal
 
-pub returns-in-Err : goal.returns-in-Err
-returns-in-Err g c = λ words asked.
+pub returns-in-Err-clause-answered : goal.returns-in-Err-clause-answered
+returns-in-Err-clause-answered g c = λ words asked.
     let w = g.K.Sink.written in
     let f = g.K.Sink.faults in
     declined_run c.in-Err.answer (record {
@@ -17,10 +17,10 @@ returns-in-Err g c = λ words asked.
       last_old = c.args.last.now;
       last_new = c.args.last.now;
     }) c.args.name.now asked c.in-Err.ensures.fails
-    (record { line = c.refuse.ensures; out = refl {a = w c.args.out.now}; last = refl {a = c.args.last.now} })
+    (record { line = c.refuse.ensures.said; out = refl {a = w c.args.out.now}; last = refl {a = c.args.last.now} })
 
-pub returns-in-Ok-finished : goal.returns-in-Ok-finished
-returns-in-Ok-finished g c = λ words asked.
+pub returns-in-Ok-finished-clause-answered : goal.returns-in-Ok-finished-clause-answered
+returns-in-Ok-finished-clause-answered g c = λ words asked.
     let started = c.in-Ok.ensures.started in
     inl (record {
       name = c.args.name.now;
