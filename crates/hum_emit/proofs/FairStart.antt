@@ -86,12 +86,9 @@ start_fair : (units : ℕ) → Fair units start
 start_fair units =
     let many = routines_many in
     record {
-routines_no_code : (number : ℕ) (places : List ℕ) → Every NoCode (routine_cells number places)
-routines_no_code number [] = tt
-routines_no_code number (place ∷ more) = (refl, routines_no_code (suc number) more)
-
       instructions = all_tested (length runtime) units (length (routine_cells 0 routine_places)) runtime runtime_tests;
       cells = routines_made (length runtime) units (length (routine_cells 0 routine_places)) 0 routine_places (omega (arith, many)) routines_inside;
+      no_code = routines_no_code 0 routine_places;
       symbols = λ name n h. absurd (let no : None ≡ Some n = h in cc);
       fixed = omega arith;
     }
