@@ -22,3 +22,4 @@ pub mod Stops
 pub mod OneLane
 pub mod Emitted
 pub mod Simulated
+pub mod AcceptedLinks

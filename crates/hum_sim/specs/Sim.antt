@@ -1,5 +1,5 @@
 -- A program that runs on the machine.
-use Rattle.std.specs.Prelude.{◌≡◌, ◌⊎◌, ℕ, List}
+use Rattle.std.specs.Prelude.{◌≡◌, ◌⊎◌, ◌≤◌, ℕ, List}
 use Rattle.vm_machine.specs.Machine.{Machine}
 use Rattle.vm_machine.specs.View.{unwritten}
 use Rattle.vm_turn.specs.Run.{run, picks}
@@ -23,10 +23,12 @@ pub record Sim : Type 0 where
   pub compiled : Compiled
   pub machine : Machine
 
--- the machine has the program's image
+-- the machine has the program's image, and 1 to 64 lanes
 pub record RunsItsImage (s : Sim) : Type 0 where
   pub compiled : IsCompiled s.compiled.tree s.compiled.units s.compiled.image
   pub image_is : s.machine.image ≡ s.compiled.image
+  pub some_lanes : 1 ≤ s.machine.state.lanes
+  pub lanes_limit : s.machine.state.lanes ≤ 64
 
 -- the program's file, and where the parts of its program stand in the image
 abbrev pub file_of : Sim → List Stmt

@@ -1,7 +1,7 @@
 // From a text to its image.
 
-ghost use Rattle.std.specs.Prelude.{◌≡◌, ◌∷◌, [], IfOk, IfErr};
-ghost use Rattle.uasm_read.specs.Links.{Linked};
+ghost use Rattle.std.specs.Prelude.{◌≡◌, ◌∷◌, [], None, IfOk, IfErr};
+ghost use Rattle.uasm_read.specs.Links.{Linked, link_fault};
 ghost use Rattle.hum_core.specs.Programs as programs;
 ghost use Rattle.hum_emit.specs.Compiled.{compiled_module};
 ghost use Rattle.hum_meaning.specs.Scope.{Scoped};
@@ -16,7 +16,7 @@ use hum_syntax::Tree;
 use quad_memory::Image;
 use std::alloc::{AllocError as NoMemory, Global};
 use std::marker::Model;
-use uasm_link::link;
+use uasm_link::{LinkError, link};
 
 /// What a program's text is compiled to: its tree, its program, and the image of the code of that.
 ///
@@ -72,13 +72,15 @@ impl Compiled {
 fn image_of(alloc: Global, tree: &Tree, program: &Program) -> Result<Image, NoMemory>
     requires scoped { Scoped tree.now.statements }
     requires units { program.now.units ≡ programs.program tree.now.statements }
+    requires links { link_fault (compiled_module program.now.units ∷ []) ≡ None }
     ensures { IfOk result (λ image. Linked (compiled_module program.now.units ∷ []) image.boot image.cells) }
 {
     let module = emit(alloc, program)?;
     let modules = [module];
     match link(alloc, &modules) {
         Ok(image) => Ok(image),
-        Err(_) => Err(NoMemory),
+        Err(LinkError::NoMemory) => Err(NoMemory),
+        Err(_) => unreachable!(),
     }
 }
 

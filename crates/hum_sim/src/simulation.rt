@@ -60,16 +60,6 @@ impl Sim {
         Ok(Sim { compiled, machine })
     }
 
-    /// A machine that runs the program's image.
-    pub fn of(compiled: Compiled, machine: Machine) -> Sim
-        requires { machine.image ≡ compiled.image }
-        ensures compiled { result.compiled ≡ compiled }
-        ensures machine { result.machine ≡ machine }
-    {
-        let _image = compiled.image();
-        Sim { compiled, machine }
-    }
-
     /// One turn of the machine, as `Machine::turn`. After it the machine stands for the file's configuration after its journal: for the same
     /// one as before, or for the one that the entry makes of it that the turn adds. It runs out only for its cause.
     pub fn turn<K: Sink>(&mut self, out: &mut K) -> Result<Turn, WriteFault>
@@ -102,6 +92,8 @@ impl Sim {
     pub fn machine(&self) -> &Machine
         ensures value { result.now ≡ self.now.machine }
         ensures image { result.now.image ≡ self.now.compiled.image }
+        ensures some_lanes { 1 ≤ result.now.state.lanes }
+        ensures lanes_limit { result.now.state.lanes ≤ 64 }
         ensures stands { Stands self.now }
         ensures completes { self.now.machine.state.lanes ≡ 1 → Completes self.now }
     {

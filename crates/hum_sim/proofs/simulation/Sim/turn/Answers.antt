@@ -1,4 +1,4 @@
-use Rattle.std.proofs.Common.{◌≡◌, ◌∙◌, subst, ℕ}
+use Rattle.std.proofs.Common.{◌≡◌, ◌≤◌, ◌∙◌, sym, subst, ℕ}
 use Rattle.vm_machine.specs.Machine.{drawn_run}
 use Rattle.hum_sim.specs.Sim.{Sim, RunsItsImage, KeepsStanding}
 use Rattle.hum_sim.proofs.Simulated.{stands, completes, keeps_standing}
@@ -8,13 +8,23 @@ pub returns-clause-stands : goal.returns-clause-stands
 returns-clause-stands g c =
     let m = c.turn-answer.new.self in
     let t : Sim = record { compiled = c.self.inside.compiled; machine = m } in
-    let is : RunsItsImage t = record { compiled = c.self.invariant.compiled; image_is = c.turn-answer.ensures.image ∙ c.self.invariant.image_is } in
+    let is : RunsItsImage t = record {
+      compiled = c.self.invariant.compiled;
+      image_is = c.turn-answer.ensures.image ∙ c.self.invariant.image_is;
+      some_lanes = subst (λ (n : ℕ). 1 ≤ n) (sym c.turn-answer.ensures.lanes) c.self.invariant.some_lanes;
+      lanes_limit = subst (λ (n : ℕ). n ≤ 64) (sym c.turn-answer.ensures.lanes) c.self.invariant.lanes_limit;
+    } in
     stands t is (subst (λ (n : ℕ). m.state ≡ drawn_run m.image m.grant m.state.lanes m.seed n) c.turns-turns.ensures.value c.turns-turns.ensures.run)
 
 pub returns-clause-completes : goal.returns-clause-completes
 returns-clause-completes g c one =
     let t : Sim = record { compiled = c.self.inside.compiled; machine = c.turn-answer.new.self } in
-    completes t (record { compiled = c.self.invariant.compiled; image_is = c.turn-answer.ensures.image ∙ c.self.invariant.image_is })
+    completes t (record {
+      compiled = c.self.invariant.compiled;
+      image_is = c.turn-answer.ensures.image ∙ c.self.invariant.image_is;
+      some_lanes = subst (λ (n : ℕ). 1 ≤ n) (sym c.turn-answer.ensures.lanes) c.self.invariant.some_lanes;
+      lanes_limit = subst (λ (n : ℕ). n ≤ 64) (sym c.turn-answer.ensures.lanes) c.self.invariant.lanes_limit;
+    })
 
 pub returns-clause-keeps : goal.returns-clause-keeps
 returns-clause-keeps g c =
