@@ -1,40 +1,26 @@
 //! Worked programs: what each writes, and how its events end.
 
-ghost use Rattle.std.specs.Prelude.{IfOk};
-ghost use Rattle.hum_emit.specs.Shapes.{shapes_of, ShapesFit};
+ghost use Rattle.std.specs.Prelude.{◌≤◌};
 
-use hum_core::Program;
-use hum_emit::emit;
-use hum_front::read_text;
-use hum_match::lower;
 use hum_outside::MemSink;
+use hum_sim::{Sim, compile};
 use std::alloc::Global;
 use std::process::Abort;
 use std::test::Fail;
-use uasm_link::link;
-use vm_machine::{Lanes, Machine};
+use vm_machine::Lanes;
 use vm_sponsor::Grant;
 use vm_turn::{Outcome, Turn};
 
-/// The program of a text.
-pub fn program(alloc: Global, text: &[u8]) -> Result<Program, Fail>
-    ensures { IfOk result (λ p. ShapesFit p.units (shapes_of p.units)) }
+/// The program of a text, booted with ample grants.
+pub fn booted(rt: &impl Abort, alloc: Global, text: &[u8], lanes: Lanes) -> Result<Sim, Fail>
+    requires some_lanes { 1 ≤ lanes.count }
+    requires lanes_limit { lanes.count ≤ 64 }
 {
-    let Ok(reading) = read_text(alloc, text) else {
+    let Ok(compiled) = compile(alloc, text) else {
         return Err(Fail::new("the text is refused"));
     };
-    Ok(lower(alloc, &reading.resolved)?)
-}
-
-/// The machine that a text's image boots to.
-pub fn machine(rt: &impl Abort, alloc: Global, text: &[u8]) -> Result<Machine, Fail> {
-    let module = emit(alloc, &program(alloc, text)?)?;
-    let modules = [module];
-    let Ok(image) = link(alloc, &modules) else {
-        return Err(Fail::new("no image"));
-    };
     let grant = Grant::new(1_000_000, 1000, 1_000_000).expect(rt, "a grant");
-    Ok(Machine::boot(alloc, &image, grant, Lanes { count: 1, seed: 7 })?)
+    Ok(Sim::boot(alloc, compiled, grant, lanes)?)
 }
 
 /// How the events of a program end, with 0 for one that commits, and what it writes.
@@ -42,13 +28,17 @@ pub fn runs(
     rt: &impl Abort,
     alloc: Global,
     text: &[u8],
+    lanes: Lanes,
     ends: &[i32],
     written: &[u8],
-) -> Result<(), Fail> {
-    let mut machine = machine(rt, alloc, text)?;
+) -> Result<(), Fail>
+    requires some_lanes { 1 ≤ lanes.count }
+    requires lanes_limit { lanes.count ≤ 64 }
+{
+    let mut sim = booted(rt, alloc, text, lanes)?;
     let mut out = MemSink::with_room(alloc, 1000, 100, Vec::new(alloc))?;
     for _ in 0..200_000 {
-        match machine.turn(&mut out) {
+        match sim.turn(&mut out) {
             Ok(Turn::Rest) => break,
             Ok(_) => {}
             Err(_) => return Err(Fail::new("a write fault")),
@@ -56,7 +46,7 @@ pub fn runs(
     }
     assert_eq!(rt; out.bytes(), written);
     let mut found = Vec::new(alloc);
-    for entry in machine.journal() {
+    for entry in sim.machine().journal() {
         found.push(match entry.outcome {
             Outcome::Committed => 0,
             Outcome::Failed(reason) => reason.number().unwrap_or(99),
@@ -154,10 +144,14 @@ const ROWS: [(&[u8], &[i32], &[u8]); 24] = [
     ),
 ];
 
+// With one event in flight at a time, and with up to eight.
 #[test]
 fn rows(rt: HostRuntime) -> Result<(), Fail> {
     for (text, ends, written) in ROWS.iter() {
-        runs(&rt, rt.alloc(), text, ends, written)?;
+        let one = Lanes { count: 1, seed: 7 };
+        runs(&rt, rt.alloc(), text, one, ends, written)?;
+        let eight = Lanes { count: 8, seed: 3 };
+        runs(&rt, rt.alloc(), text, eight, ends, written)?;
     }
     Ok(())
 }

@@ -1,10 +1,10 @@
 //! Programs that are as tall and as wide as they may be: each part of the compiler has stack for them, and so has the end of each tree.
 
-use crate::programs::{program, runs};
-use hum_emit::emit;
+use crate::programs::runs;
+use hum_sim::compile;
 use std::alloc::{AllocError, Global};
 use std::test::Fail;
-use uasm_link::link;
+use vm_machine::Lanes;
 
 // A text of parts, each written so many times.
 fn repeated(alloc: Global, parts: &[(&[u8], usize)]) -> Result<Vec<u8>, AllocError> {
@@ -19,12 +19,13 @@ fn repeated(alloc: Global, parts: &[(&[u8], usize)]) -> Result<Vec<u8>, AllocErr
 
 // The numbers of units and of cells that a text is compiled to.
 fn sizes(alloc: Global, text: &[u8]) -> Result<(usize, usize), Fail> {
-    let program = program(alloc, text)?;
-    let modules = [emit(alloc, &program)?];
-    let Ok(image) = link(alloc, &modules) else {
-        return Err(Fail::new("no image"));
+    let Ok(compiled) = compile(alloc, text) else {
+        return Err(Fail::new("the text is refused"));
     };
-    Ok((program.units.len(), image.cells().len()))
+    Ok((
+        compiled.program().units.len(),
+        compiled.image().cells().len(),
+    ))
 }
 
 // 7,960 calls, of which each is the callee or the argument of the next: hardly any text that is accepted has more nodes one in another.
@@ -64,5 +65,6 @@ fn a_wide_program(rt: HostRuntime) -> Result<(), Fail> {
         text.extend_from_slice(b" = 5 ")?;
     }
     text.extend_from_slice(b"SEND n0000 TO println SEND n3985 TO println")?;
-    runs(&rt, alloc, &text, &[0, 0, 0], b"5\n5\n")
+    let lanes = Lanes { count: 1, seed: 7 };
+    runs(&rt, alloc, &text, lanes, &[0, 0, 0], b"5\n5\n")
 }
