@@ -22,10 +22,10 @@ use Rattle.hum_code.specs.Runtime.{BootAt, RuntimeAt, outermost_words}
 use Rattle.hum_code.specs.Emission.{CodeStands}
 use Rattle.hum_code.proofs.Makings.{length_end}
 use Rattle.hum_code.proofs.World.{same}
-use Rattle.hum_emit.specs.declared.instruction.Field.TheVariants.{Number, Constant as ConstantField, Place, Data}
+use Rattle.hum_emit.specs.declared.instruction.Field.TheVariants.{Constant as ConstantField, Place, Data}
 use Rattle.hum_emit.specs.declared.instruction.Instruction.{Instruction}
 use Rattle.hum_emit.specs.declared.instruction.Datum.{Datum}
-use Rattle.hum_emit.specs.Emitted.{Emitted, function_type, ◌▷◌, push, put, pair, state, list_field}
+use Rattle.hum_emit.specs.Emitted.{Emitted, ◌▷◌, push, put, pair, state, list_field}
 use Rattle.hum_emit.specs.Holds.{Holds, word_of, data_word}
 use Rattle.hum_emit.specs.Runtime.{routine_places, end_place}
 use Rattle.hum_emit.specs.Templates.{units_code, push_data, boot_code}

@@ -1,10 +1,10 @@
 -- The fixed code stands.
-use Rattle.std.proofs.Common.{◌≡◌, refl, ap, sym, subst, ◌∙◌, ℕ, zero, suc, ◌<◌, ◌≤◌, pos, negsuc, Bool, true, false, List, [], ◌∷◌, ◌++◌, map, length, Option, Some, None, arith}
+use Rattle.std.proofs.Common.{◌≡◌, refl, ap, sym, subst, ◌∙◌, ℕ, zero, suc, ◌<◌, ◌≤◌, pos, negsuc, Bool, true, false, List, [], ◌∷◌, ◌++◌, map, length, Some, None, arith}
 use Rattle.std.specs.Prelude.{slice_get, slice_index, nat_eq, ◌||◌}
 use Rattle.std.specs.List.{list_any, AllByRecursion}
 use Rattle.std.proofs.lemmas.Bool.Decides.{nat_tests}
 use Rattle.std.proofs.lemmas.List.{append-nil}
-use Rattle.cap_words.specs.Words.{W, Fix, nil, truth, fixnum_t, pair_t, func_t, block_t, undef}
+use Rattle.cap_words.specs.Words.{W, Fix, nil, truth, pair_t, func_t, block_t}
 use Rattle.instr_table.specs.declared.op.Op.{Op}
 use Rattle.instr_table.specs.declared.op.Op.TheVariants as op
 use Rattle.instr_table.specs.Code.{named}
@@ -16,12 +16,12 @@ use Rattle.hum_code.proofs.Makings.{length_end}
 use Rattle.hum_emit.specs.declared.instruction.Field.TheVariants.{Number, Constant as ConstantField, Place}
 use Rattle.hum_emit.specs.declared.instruction.Field.{Field}
 use Rattle.hum_emit.specs.declared.instruction.Instruction.{Instruction}
-use Rattle.hum_emit.specs.Emitted.{Emitted, Piece, ◌▷◌, put, one, choose, jump, push, dup, drop, pick, roll, pair, part, nth, quad, typeq, eq}
+use Rattle.hum_emit.specs.Emitted.{Emitted, Piece, ◌▷◌, put, one, choose, dup, drop, pick, roll, pair, part, nth, quad, typeq, eq}
 use Rattle.hum_emit.specs.Holds.{place_word, next_word}
 use Rattle.hum_emit.specs.Routines.{goes, unless, or_else, either, looped, each, cmp, alu, message, my_state, false_word, back, fails_with, call_code, exec_code, apply_code, pairs_code, more_code, leaves_code, compare_turn, compare_loop, compare_code, two_of_them, numbers, truth as truth_code, calculates, orders, both, any, negates, built_in_codes}
-use Rattle.hum_emit.specs.Runtime.{failure_codes, no_code, ended, aborted, failed, went_back, called, executed, applied, compared, same_called, built_in, fixed_code, end_place, fail_in, fail_place, routine_places}
+use Rattle.hum_emit.specs.Runtime.{failure_codes, no_code, ended, aborted, failed, went_back, called, executed, applied, compared, same_called, built_in, fixed_code, end_place, fail_place, routine_places}
 use Rattle.hum_emit.specs.Program.{routine_cells, start}
-use Rattle.hum_emit.proofs.Makes.{Kept, Begins, begins_same, begins_later, put_begins, Growing, g_one, g_both, Image, layout, put_stands, Makes, makes_one, makes_both, makes_as, makes_miss, makes_to, makes_choose, makes_calls, makes_jump, pushes, dups, drops, picks, rolls, pairs_up, parts, nths}
+use Rattle.hum_emit.proofs.Makes.{Kept, Begins, begins_same, begins_later, put_begins, Growing, g_one, Image, layout, put_stands, Makes, makes_one, makes_both, makes_as, makes_miss, makes_to, makes_choose, makes_calls, makes_jump, pushes, dups, drops, picks, rolls, pairs_up, parts, nths}
 use Rattle.hum_emit.proofs.Expressions.{at, typeqs, eqs}
 
 -- ---- pieces that have as many instructions

@@ -36,6 +36,7 @@ mod ListCells
 pub mod Scopes
 pub mod Turns
 pub mod Compiling
+pub mod CodePlaces
 pub mod Tops
 pub mod Findings
 pub mod Parting

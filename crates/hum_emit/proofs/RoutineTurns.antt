@@ -1,17 +1,17 @@
 -- What the calls that make the fixed code make, one after the other.
-use Rattle.std.proofs.Common.{◌≡◌, refl, ap, sym, ◌∙◌, ℕ, zero, suc, ◌+◌, ◌<◌, ◌≤◌, pos, negsuc, List, [], ◌∷◌, ◌++◌, map, length, take, append_assoc, Some, None, arith}
+use Rattle.std.proofs.Common.{◌≡◌, refl, ap, sym, ◌∙◌, ℕ, ◌+◌, ◌<◌, ◌≤◌, pos, negsuc, List, [], ◌∷◌, ◌++◌, map, length, take, append_assoc, Some, arith}
 use Rattle.std.specs.Prelude.{slice_get, slice_index}
 use Rattle.std.proofs.lemmas.List.{take_more, take_all}
 use Rattle.std.proofs.lemmas.Option.{slice_get_within, get_or_from_slice_get}
 use Rattle.std.proofs.Math.Seq.{take-append_seam}
 use Rattle.hum_emit.specs.declared.instruction.Field.TheVariants.{Place}
-use Rattle.hum_emit.specs.Emitted.{Emitted, Piece, choose, drop, roll, ◌▷◌}
+use Rattle.hum_emit.specs.Emitted.{Emitted, Piece, choose, drop, roll}
 use Rattle.hum_emit.specs.Routines.{goes, unless, either, looped, each, ends, back, fails_with, call_code, exec_code, apply_code, pairs_code, more_code, leaves_code, compare_turn, compare_loop, compare_code, false_word, built_in_codes}
 use Rattle.hum_emit.specs.Runtime.{failure_codes, no_code, ended, aborted, failed, went_back, called, executed, applied, compared, same_called, built_in, fixed_code, fail_in, runtime, end_place, call_place, exec_place, apply_place, same_place, routine_places}
 use Rattle.hum_emit.specs.Emitting.{with_cells}
 use Rattle.hum_emit.specs.Program.{routine_cells}
 use Rattle.hum_emit.proofs.FixedPlaces.{routines_many, routine_cell, routine_at, cells_many}
-use Rattle.hum_emit.proofs.Makes.{Begins, begins_same, begins_later, put_begins, Growing, g_one, g_choose, g_both}
+use Rattle.hum_emit.proofs.Makes.{begins_same, begins_later, put_begins, Growing, g_one, g_choose, g_both}
 
 -- ---- a piece, and then those behind it
 

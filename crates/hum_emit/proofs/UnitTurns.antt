@@ -8,8 +8,9 @@ use Rattle.hum_emit.specs.declared.instruction.Instruction.{Instruction}
 use Rattle.hum_emit.specs.declared.instruction.Datum.{Datum}
 use Rattle.hum_emit.specs.Emitted.{Emitted}
 use Rattle.hum_emit.specs.Emitting.{front_units}
-use Rattle.hum_emit.specs.Compiled.{compiled}
+use Rattle.hum_emit.specs.Compiled.{compiled, compiled_module}
 use Rattle.hum_emit.specs.Made.{Made}
+use Rattle.hum_emit.specs.Module.{module_from}
 use Rattle.hum_emit.specs.Shapes.{outermost_shape, shapes_of, ShapesFit}
 use Rattle.hum_emit.specs.Templates.{unit_code, units_code}
 use Rattle.hum_emit.proofs.FairStart.{emission_made}
@@ -76,3 +77,12 @@ made_of units us code cells entries same fits code_is cells_is entries_is few_co
     (subst (λ d. Made (compiled units).0.code d entries) (sym y)
     (subst (λ es. Made (compiled units).0.code (compiled units).0.cells es) (sym z)
     (emission_made units (shapes_of units) fits (subst (λ c. length c < 2 ^ 32) x few_code) (subst (λ d. length d < 2 ^ 32) y few_cells))))
+
+-- the module of what is that
+pub module_is : (units us : List TestUnit) (code : List Instruction) (cells : List Datum) (entries : List ℕ) → us ≡ units
+    → code ≡ (compiled us).0.code → cells ≡ (compiled us).0.cells → entries ≡ (compiled us).1 → module_from code cells entries ≡ compiled_module units
+module_is units us code cells entries same code_is cells_is entries_is =
+    let x : code ≡ (compiled units).0.code = code_is ∙ ap (λ vs. (compiled vs).0.code) same in
+    let y : cells ≡ (compiled units).0.cells = cells_is ∙ ap (λ vs. (compiled vs).0.cells) same in
+    let z : entries ≡ (compiled units).1 = entries_is ∙ ap (λ vs. (compiled vs).1) same in
+    λ i. module_from (x i) (y i) (z i)

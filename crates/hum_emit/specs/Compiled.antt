@@ -1,5 +1,5 @@
 -- What a program's module is: the image that it links to holds the program.
-use Rattle.std.specs.Prelude.{◌≡◌, ℕ, ◌+◌, ◌<◌, ◌≤◌, List, [], ◌∷◌, length, Option, Some, option_map}
+use Rattle.std.specs.Prelude.{◌≡◌, ℕ, suc, ◌+◌, ◌<◌, ◌≤◌, List, [], ◌∷◌, ◌++◌, length, map, Option, Some, option_map, slice_get}
 use Rattle.cap_words.specs.declared.word.Quad.{Quad}
 use Rattle.cap_words.specs.Words.{W, Rom}
 use Rattle.uasm_read.specs.Modules.{ModuleParts}
@@ -9,9 +9,11 @@ use Rattle.hum_core.specs.declared.tested.TestUnit.{TestUnit}
 use Rattle.hum_code.specs.Layout.{Layout}
 use Rattle.hum_code.specs.Program.{HoldsProgram}
 use Rattle.hum_emit.specs.Emitted.{Emitted}
+use Rattle.hum_emit.specs.Holds.{place_number}
 use Rattle.hum_emit.specs.Module.{module_of, boot_label, apply_label, unit_label}
 use Rattle.hum_emit.specs.Program.{emission}
 use Rattle.hum_emit.specs.ProgramLayout.{places_of, program_layout}
+use Rattle.hum_emit.specs.Runtime.{apply_place}
 use Rattle.hum_emit.specs.Shapes.{shapes_of, ShapesFit}
 
 -- what is emitted of a program's units, in the shapes of their places
@@ -46,3 +48,16 @@ abbrev pub LabelsArePlaces : Type 0
 LabelsArePlaces =
     (units : List TestUnit) → ShapesFit units (shapes_of units) → length (compiled units).0.code + length (compiled units).0.cells ≤ item_limit
     → Labelled units
+
+-- the ROM numbers of the units' first instructions in the order of the units, and then that of the routine that applies a behaviour
+abbrev pub code_places : List TestUnit → List ℕ
+code_places units = map (place_number (length (compiled units).0.code)) ((compiled units).1 ++ apply_place ∷ [])
+
+-- There is a place for each unit and one more. Place K is where the code of unit K stands, and the last one where that of the routine does.
+pub record Placed (units : List TestUnit) : Type 0 where
+  pub count : length (code_places units) ≡ suc (length units)
+  pub unit : (k : ℕ) → k < length units → option_map Rom (slice_get (code_places units) k) ≡ Some ((layout_of units).place k)
+  pub apply : option_map Rom (slice_get (code_places units) (length units)) ≡ Some (layout_of units).apply
+
+abbrev pub CodePlacesStand : Type 0
+CodePlacesStand = (units : List TestUnit) → ShapesFit units (shapes_of units) → Placed units

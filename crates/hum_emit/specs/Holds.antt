@@ -15,10 +15,14 @@ pub record Places : Type 0 where
   pub size : ℕ
   pub entry : ℕ → ℕ
 
+-- the ROM number of an instruction, where there are so many: the one that was made last stands first, behind the constants
+abbrev pub place_number : (size : ℕ) → ℕ → ℕ
+place_number size i = 16 + (size - suc i)
+
 module _ (p : Places) where
-  -- the instruction that was made last stands first, behind the constants; the data stand behind all instructions
+  -- the data stand behind all instructions
   abbrev pub place_word : ℕ → W
-  place_word i = Rom (16 + (p.size - suc i))
+  place_word i = Rom (place_number p.size i)
 
   abbrev pub data_word : ℕ → W
   data_word j = Rom (16 + (p.size + j))

@@ -1,6 +1,6 @@
 -- The routines of the fixed code, in the words of the templates. In a comment `S` is a stack that is not looked into, with the top on the
 -- right. A routine that a program's code comes to by `calls` has the number to go back to on its stack: `back` takes it from there.
-use Rattle.std.specs.Prelude.{ℕ, ◌-◌, ℤ, pos, negsuc, List, [], ◌∷◌, map, slice_index, None, Some}
+use Rattle.std.specs.Prelude.{ℕ, ℤ, pos, negsuc, List, [], ◌∷◌, None, Some}
 use Rattle.hum_emit.specs.declared.instruction.Field.TheVariants.{Number, Constant, Place}
 use Rattle.hum_emit.specs.Emitted.{Emitted, Piece, ◌▷◌, put, one, choose, calls, jump, push, dup, drop, pick, roll, pair, part, nth, quad, typeq, eq, nil, pair_type, function_type, block_type}
 

@@ -1,6 +1,6 @@
 //! What is so of emitted code.
 
-ghost use Rattle.hum_emit.specs.Compiled.{CompiledImagesHold, LabelsArePlaces};
+ghost use Rattle.hum_emit.specs.Compiled.{CodePlacesStand, CompiledImagesHold, LabelsArePlaces};
 ghost use Rattle.hum_emit.specs.Laws.{LinkedHolds, EmittedCodeStands, ShapesOfProgramsFit, EmissionsAreMade};
 ghost use Rattle.hum_emit.specs.Size.{EmissionsAreSmall, ModulesAreSmall, ProgramsLink};
 
@@ -55,4 +55,10 @@ pub fn programs_link()
 /// The labels `boot`, `apply` and `uK` of the module of a program name the first event's code, the code that applies a behaviour, and unit K's.
 pub fn labels_are_places()
     ensures { LabelsArePlaces }
+{}
+
+/// The places of the code of a program say where it stands in the image: one for each unit, and behind them that of the code that applies a
+/// behaviour.
+pub fn code_places_stand()
+    ensures { CodePlacesStand }
 {}

@@ -6,7 +6,8 @@
 //! `shapes_of_programs_fit`. What is emitted stands for the program in each store that holds it: `emitted_code_stands`. `emit` makes the
 //! module of a program (`Module.antt`), the image of a well made emission holds each instruction and each datum at its place,
 //! `linked_holds` (`Holds.antt`), and so the image that a program's module links to holds the program:
-//! `compiled_images_hold_their_programs` (`Compiled.antt`).
+//! `compiled_images_hold_their_programs` (`Compiled.antt`). `emit_with_places` says beside the module where the code of each unit stands in
+//! that image: `code_places_stand`.
 #![tactic(auto)]
 
 mod builtins;
@@ -17,6 +18,7 @@ mod instruction;
 mod laws;
 mod module;
 mod operations;
+mod places;
 mod routines;
 mod rows;
 mod runtime;
@@ -28,10 +30,10 @@ mod whole;
 
 pub use instruction::{Datum, Field, Instruction};
 pub use laws::{
-    compiled_images_hold_their_programs, emissions_are_made, emissions_are_small,
-    emitted_code_stands, labels_are_places, linked_holds, modules_are_small, programs_link,
-    shapes_of_programs_fit,
+    code_places_stand, compiled_images_hold_their_programs, emissions_are_made,
+    emissions_are_small, emitted_code_stands, labels_are_places, linked_holds, modules_are_small,
+    programs_link, shapes_of_programs_fit,
 };
 pub use module::module_of;
 pub use std::alloc::AllocError as NoMemory;
-pub use whole::emit;
+pub use whole::{PlacedModule, emit, emit_with_places};

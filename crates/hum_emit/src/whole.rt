@@ -1,7 +1,7 @@
 // The emission of whole programs.
 
 ghost use Rattle.std.specs.Prelude.{◌≡◌, ◌<◌, ◌^◌, map, slice_index, OnOk, IfOk};
-ghost use Rattle.hum_emit.specs.Compiled.{compiled, compiled_module};
+ghost use Rattle.hum_emit.specs.Compiled.{code_places, compiled, compiled_module};
 ghost use Rattle.hum_emit.specs.Emitting.{emitted, with_cells};
 ghost use Rattle.hum_emit.specs.Program as spec;
 ghost use Rattle.hum_emit.specs.Rowing.{shape_at};
@@ -12,6 +12,7 @@ ghost use Rattle.hum_emit.specs.Templates.{push_data, boot_code, units_code};
 use crate::emitter::{Emitter, FUNCTION_TYPE, NIL, operand};
 use crate::instruction::{Datum, Field, Instruction};
 use crate::module::module_of;
+use crate::places::rom_numbers;
 use crate::routines::Routines;
 use crate::runtime::fixed_code;
 use crate::shape::Shape;
@@ -131,22 +132,38 @@ fn few(count: usize) -> Result<(), NoMemory>
     Ok(())
 }
 
-/// The module of a program, whose image holds the program: `compiled_images_hold_their_programs`. Only want of memory is an error, which
-/// 2^32 instructions or data are too. Expressions may be of any depth, and the call takes stack for each level of them.
-pub fn emit(alloc: Global, program: &Program) -> Result<Module, NoMemory>
+/// The module of a program, and where the code of its units stands in the image that the module links to.
+#[derive(Drop)]
+pub struct PlacedModule {
+    pub module: Module,
+    /// The ROM numbers of the units' first instructions, and then that of the routine that applies a behaviour.
+    pub places: Vec<u32>,
+}
+
+/// The module of a program, whose image holds the program: `compiled_images_hold_their_programs`; and the places of its code there:
+/// `code_places_stand`. Only want of memory is an error, which 2^32 instructions, data or places are too. Expressions may be of any depth,
+/// and the call takes stack for each level of them.
+pub fn emit_with_places(alloc: Global, program: &Program) -> Result<PlacedModule, NoMemory>
     requires { shaped.ShapesFit program.now.units (shaped.shapes_of program.now.units) }
-    ensures { IfOk result (λ made. made ≡ compiled_module program.now.units) }
+    ensures module { IfOk result (λ made. made.module ≡ compiled_module program.now.units) }
+    ensures places { IfOk result (λ made. made.places.items ≡ code_places program.now.units) }
 {
     let emission = emission_of(alloc, program.units.as_slice())?;
     let code = emission.code.as_slice();
     let cells = emission.cells.as_slice();
+    let entries = emission.entries.as_slice();
     few(code.len())?;
     few(cells.len())?;
-    module_of(
-        alloc,
-        emission.apply,
-        code,
-        cells,
-        emission.entries.as_slice(),
-    )
+    let module = module_of(alloc, emission.apply, code, cells, entries)?;
+    let places = rom_numbers(alloc, code.len(), entries, emission.apply)?;
+    Ok(PlacedModule { module, places })
+}
+
+/// The module of a program alone, as `emit_with_places` makes it.
+pub fn emit(alloc: Global, program: &Program) -> Result<Module, NoMemory>
+    requires { shaped.ShapesFit program.now.units (shaped.shapes_of program.now.units) }
+    ensures { IfOk result (λ made. made ≡ compiled_module program.now.units) }
+{
+    let PlacedModule { module, .. } = emit_with_places(alloc, program)?;
+    Ok(module)
 }

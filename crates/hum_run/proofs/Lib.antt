@@ -1,5 +1,7 @@
-mod Words
-mod Numbers
-mod Spelled
-mod Events
-pub mod Outputs
+mod Results
+mod Turned
+mod Completed
+mod Failures
+mod Counts
+pub mod Booted
+pub mod Rests

@@ -1,2 +1,4 @@
-pub mod Text
+pub mod Failure
+pub mod Report
+pub mod Drive
 pub mod Run

@@ -1,10 +1,20 @@
-//! Whole runs of a program text. So far a text is a list of statements `SEND N TO println`.
+//! Whole runs: turns of a machine to an end, with a line on err for each event that fails.
 //!
-//! `Run::start` reads a text and puts its events into quads, `Run::advance` finishes them in order, and `Run::report` counts them.
+//! `drive` takes the turns of whatever has a machine, alone or with the program that it runs, up to a bound; `Run` is the run of a text, from
+//! `Run::start`, which compiles it, over `Run::advance`, which may be called again after each stop. `report_of` counts what a machine's
+//! events came to.
 #![tactic(auto)]
 
+mod driven;
+mod failure;
+mod report;
 mod run;
-mod text;
+mod stop;
+mod turns;
 
-pub use run::{Report, Run, Stop, WriteFault};
-pub use text::StartError;
+pub use driven::Driven;
+pub use failure::put_failure;
+pub use report::{Report, report_of};
+pub use run::Run;
+pub use stop::{Stop, WriteFault};
+pub use turns::drive;

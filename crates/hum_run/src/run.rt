@@ -1,223 +1,100 @@
-// A run, from its text to its last event.
-ghost use Rattle.std.specs.Prelude.{◌≡◌, ◌+◌, ◌-◌, ◌^◌, ◌<◌, ◌≤◌, ◌↔◌, ◌∷◌, ℤ, List, [], length, map, take, drop, get_or, vec_len, Option, Some, None, Ok, IsTrue, IfOk, IfErr, OnOk, OnErr, IsErrOf, false};
-ghost use Rattle.std.specs.List.{flat_map};
-ghost use Rattle.hum_outside.specs.Outside.{Rose, HasCause, AppendsFront, appended};
-ghost use Rattle.cap_words.specs.Words.{W, Fix, undef, nil};
-ghost use Rattle.cap_words.specs.Fixnums.{in_range};
-ghost use Rattle.cap_words.specs.Store.{used};
-ghost use Rattle.quad_memory.specs.Cells.{event_at};
-ghost use Rattle.hum_run.specs.Text.{IsFirstForm};
-ghost use Rattle.hum_run.specs.Run.{event_to, events_of, started, number_line, written_by, report_of, BrokeAt, Finishes, Breaks};
-ghost use Rattle.hum_run.specs.declared.run.Stop.TheVariants.{Rest, Broken};
+// The run of a text.
+ghost use Rattle.std.specs.Prelude.{◌≡◌, ◌≤◌, true, false, IfOk, IfErr};
+ghost use Rattle.hum_front.specs.Accepted.{Accepted, Fails};
+ghost use Rattle.hum_sim.specs.Sim.{Stands, Completes};
+ghost use Rattle.hum_run.specs.Drive.{Drives, Breaks, RoseOn, Unreached, RanOutSince, is_reached};
+ghost use Rattle.hum_run.specs.Report.{report_of};
+ghost use Rattle.hum_run.specs.Run.{IsStart, Halts, is_broken};
 
-use crate::text::{StartError, read_messages};
-use cap_words::{Quad, Word};
-use hum_outside::{Failed, Sink, put_parts};
-use itoa::Buffer;
-use quad_memory::{EventCell, Image, NoMemory, Quads};
+use crate::report::{Report, report_of};
+use crate::stop::{Stop, WriteFault};
+use crate::turns::drive;
+use hum_front::StartError;
+use hum_outside::Sink;
+use hum_sim::{Sim, compile};
 use std::alloc::Global;
-use std::marker::Model;
+use vm_machine::Lanes;
+use vm_sponsor::Grant;
 
-/// Why a run stopped.
-#[derive(Clone, Copy, Debug, PartialEq, Eq)]
-pub enum Stop {
-    /// No message is pending.
-    Rest,
-    /// An earlier call answered `WriteFault`.
-    Broken,
-}
-
-/// A line could not be written: on err, or else on out.
-#[derive(Clone, Copy, Debug, PartialEq, Eq)]
-pub struct WriteFault {
-    pub on_err: bool,
-}
-
-/// How many events are finished, and of them committed, failed and spent; and how many messages are pending.
-#[derive(Clone, Copy, Debug, PartialEq, Eq)]
-pub struct Report {
-    pub finished: u32,
-    pub committed: u32,
-    pub failed: u32,
-    pub spent: u32,
-    pub pending: u32,
-}
-
-/// A run: its events stand in quads, in the order of their messages.
+/// The run of a program: the program with the machine that runs it, and whether a write of the run failed.
 #[derive(Drop)]
 pub struct Run {
-    quads: Quads,
-    events: Vec<Word>,
-    finished: u32,
+    sim: Sim,
     broken: bool,
 }
 
-impl Model for Run {
-    ghost use Rattle.std.specs.Prelude.{◌≤◌, vec_len, map};
-    ghost use Rattle.quad_memory.specs.Cells.{event_at};
-    ghost use Rattle.hum_run.specs.Run.{RunState};
-
-    ghost Value = { RunState };
-
-    ghost view = { λ r. record { events = map (event_at r.quads.store) r.events.items; finished = r.finished; broken = r.broken } };
-
-    ghost invariant = { λ r. (r.finished ≤ vec_len r.events) × (vec_len r.events ≤ 4001) };
-}
-
 impl Run {
-    /// Reads a text of statements `SEND N TO println`, and puts its events in order: message 0 to the file's actor, and then each number to
-    /// `println`. `NotBuilt` comes exactly where the text has another form.
-    pub fn start(alloc: Global, bytes: &[u8]) -> Result<Run, StartError>
-        ensures started { IfOk result (λ run. (numbers : List ℤ) × (run ≡ started numbers) × IsFirstForm bytes.now numbers) }
-        ensures not_built { IsErrOf result StartError.NotBuilt → (numbers : List ℤ) → ¬ (IsFirstForm bytes.now numbers) }
+    /// The run of a text before its first turn, under a grant and with 1 to 64 lanes; else why the text is refused, and where. All memory of
+    /// the run is taken here, and a call may answer `NoMemory` whatever the text is.
+    pub fn start(alloc: Global, bytes: &[u8], grant: Grant, lanes: Lanes) -> Result<Run, StartError>
+        requires some_lanes { 1 ≤ lanes.count }
+        requires lanes_limit { lanes.count ≤ 64 }
+        ensures accepted { IfOk result (λ run. Accepted bytes.now run.sim.compiled.tree) }
+        ensures start { IfOk result (IsStart grant lanes) }
+        ensures fails { IfErr result (Fails bytes.now) }
     {
-        let messages = read_messages(alloc, bytes)?;
-        let image = idle_image(alloc)?;
-        let mut quads = Quads::with_room(alloc, &image, messages.len() as u32 + 1)?;
-        let events = put_events(alloc, &mut quads, &messages)?;
-        Ok(Run {
-            quads,
-            events,
-            finished: 0,
-            broken: false,
-        })
+        let compiled = match compile(alloc, bytes) {
+            Ok(compiled) => compiled,
+            Err(refused) => return Err(refused),
+        };
+        let Ok(sim) = Sim::boot(alloc, compiled, grant, lanes) else {
+            return Err(StartError::NoMemory);
+        };
+        let _machine = sim.machine();
+        Ok(Run { sim, broken: false })
     }
 
-    /// Finishes the pending events in order, and writes what each writes to `out`.
+    /// Takes turns until no message is pending, the root sponsor has run out or the bound's number of events is finished and a message is
+    /// pending, and writes the line of each event that failed to `err`. It may be called again after each of these. Before each turn it is
+    /// tested whether the root has run out, and then the bound: there it takes none. It takes no memory.
     ///
-    /// `Rest` comes exactly where no message is pending then, and `Broken` exactly where an earlier call answered `WriteFault`; nothing
-    /// changes then. `WriteFault` comes only where a count of `out` rose: the event is unfinished, and a front of its piece was written.
-    /// No event fails yet, so nothing is written to `err`.
+    /// `WriteFault` comes only where the count of that sink rose. Where `out` failed, the event is unfinished, and a front of what it writes
+    /// was written; where `err` failed, it is finished, and a front of its line was written. After a `WriteFault` each call answers `Broken`
+    /// and changes nothing.
     pub fn advance<K: Sink>(
         &mut self,
         bound: Option<u32>,
         out: &mut K,
         err: &mut K,
     ) -> Result<Stop, WriteFault>
-        requires no_bound { bound ≡ None }
-        ensures rest { result ≡ Ok Stop.Rest → Finishes self.old self.new (K.written out.old) (K.written out.new) }
-        ensures broken { (result ≡ Ok Stop.Broken) ↔ IsTrue self.old.broken }
-        ensures unchanged { IsTrue self.old.broken → (self.new ≡ self.old) × (K.written out.new ≡ K.written out.old)
-            × (K.faults out.new ≡ K.faults out.old) }
-        ensures fault { OnErr result (Breaks self.old self.new (K.written out.old) (K.written out.new)) }
-        ensures on_out { IfErr result (λ fault. fault.on_err ≡ false) }
-        ensures out_cause { HasCause (K.faults out.old) (K.faults out.new) result }
-        ensures err_written { K.written err.new ≡ K.written err.old }
-        ensures err_faults { K.faults err.new ≡ K.faults err.old }
+        ensures halts { IfOk result (λ stop. Halts self.old.broken bound stop self.new.sim.machine) }
+        ensures marks { self.new.broken ≡ is_broken result }
+        ensures unchanged { self.old.broken ≡ true → self.new ≡ self.old }
+        ensures unwritten { self.old.broken ≡ true → (out.new ≡ out.old) × (err.new ≡ err.old) }
+        ensures drives { IfOk result (λ stop. Drives self.old.sim.machine self.new.sim.machine (K.written out.old) (K.written out.new) (K.written err.old) (K.written err.new)) }
+        ensures unreached { Unreached bound self.old.sim.machine.turns self.new.sim.machine }
+        ensures ran_out { IfOk result (λ stop. RanOutSince self.old.sim.machine.state.out_of self.new.sim.machine) }
+        ensures breaks { IfErr result (λ fault. Breaks fault.on_err self.old.sim.machine self.new.sim.machine (K.written out.old) (K.written out.new) (K.written err.old) (K.written err.new)) }
+        ensures rose { IfErr result (λ fault. RoseOn fault.on_err (K.faults out.old) (K.faults out.new) (K.faults err.old) (K.faults err.new)) }
+        ensures unreached_now { IfErr result (λ fault. fault.on_err ≡ false → is_reached bound self.new.sim.machine.state ≡ false) }
+        ensures unbroken { IfErr result (λ fault. self.old.broken ≡ false) }
+        ensures compiled { self.new.sim.compiled ≡ self.old.sim.compiled }
+        ensures stands { Stands self.new.sim }
+        ensures completes { self.new.sim.machine.state.lanes ≡ 1 → Completes self.new.sim }
+        ensures out_later { K.faults out.old ≤ K.faults out.new }
+        ensures err_later { K.faults err.old ≤ K.faults err.new }
     {
+        let _turns = self.sim.machine().turns();
         if self.broken {
             return Ok(Stop::Broken);
         }
-        let pending = &self.events[self.finished as usize..];
-        match finish_events(&self.quads, pending, &mut self.finished, out) {
-            Ok(()) => Ok(Stop::Rest),
-            Err(Failed) => {
-                self.broken = true;
-                Err(WriteFault { on_err: false })
-            }
-        }
+        let answer = drive(&mut self.sim, bound, out, err);
+        self.broken = answer.is_err();
+        let _machine = self.sim.machine();
+        answer
     }
 
-    /// What was finished, and what is pending.
-    pub fn report(&self) -> Report
-        ensures { result ≡ report_of self.now }
+    /// The program and the machine that runs it.
+    pub fn sim(&self) -> &Sim
+        ensures { result.now ≡ self.now.sim }
     {
-        Report {
-            finished: self.finished,
-            committed: self.finished,
-            failed: 0,
-            spent: 0,
-            pending: self.events.len() as u32 - self.finished,
-        }
+        &self.sim
     }
-}
 
-// The image whose one instruction is `end commit`: the events of these texts run no code.
-fn idle_image(alloc: Global) -> Result<Image, NoMemory> {
-    let end_commit = Quad {
-        t: Word::INSTR_T,
-        x: Word::number_word(21),
-        y: Word::number_word(1),
-        z: Word::UNDEF,
-    };
-    let cells = Vec::from_slice(alloc, &[end_commit])?;
-    match Word::rom_bits(16) {
-        Some(boot) => match Image::new(boot, cells) {
-            Some(image) => Ok(image),
-            None => unreachable!(),
-        },
-        None => unreachable!(),
+    /// What the run's events came to so far: each that is finished is committed, failed or spent.
+    pub fn report(&self) -> Report
+        ensures { result ≡ report_of self.now.sim.machine.state }
+    {
+        report_of(self.sim.machine())
     }
-}
-
-fn event_to(actor: i32, message: Word) -> EventCell
-    requires { IsTrue (in_range actor) }
-    ensures { result ≡ record { sponsor = undef; target = Fix actor; message = message; next = nil } }
-{
-    EventCell {
-        sponsor: Word::UNDEF,
-        target: Word::number_word(actor),
-        message,
-        next: Word::NIL,
-    }
-}
-
-// Takes a quad for each event, and gives their words.
-fn put_events(alloc: Global, quads: &mut Quads, messages: &[Word]) -> Result<Vec<Word>, NoMemory>
-    requires { used quads.old.store + length messages.now + 1 ≤ quads.old.room }
-    ensures events { IfOk result (λ words. map (event_at quads.new.store) words.items ≡ map Some (events_of messages.now)) }
-    ensures len { IfOk result (λ words. vec_len words ≡ length messages.now + 1) }
-{
-    let mut events = Vec::with_capacity(alloc, messages.len() + 1)?;
-    let first = [quads.take_event(event_to(0, Word::NIL))];
-    events.extend_from_slice(&first)?;
-    for message in messages {
-        let next = [quads.take_event(event_to(1, *message))];
-        events.extend_from_slice(&next)?;
-    }
-    Ok(events)
-}
-
-// Writes what one event writes.
-fn deliver<K: Sink>(quads: &Quads, event: Word, out: &mut K) -> Result<(), Failed>
-    ensures all { OnOk result (K.written out.new ≡ appended (K.written out.old) (written_by quads.now.store event)) }
-    ensures front { OnErr result (AppendsFront (K.written out.old) (K.written out.new) (written_by quads.now.store event)) }
-    ensures cause { HasCause (K.faults out.old) (K.faults out.new) result }
-{
-    match quads.event(event) {
-        Some(event) => match event.message.number() {
-            Some(number) => put_number(out, number),
-            None => Ok(()),
-        },
-        None => Ok(()),
-    }
-}
-
-fn put_number<K: Sink>(out: &mut K, number: i32) -> Result<(), Failed>
-    ensures all { OnOk result (K.written out.new ≡ appended (K.written out.old) (number_line number)) }
-    ensures front { OnErr result (AppendsFront (K.written out.old) (K.written out.new) (number_line number)) }
-    ensures cause { HasCause (K.faults out.old) (K.faults out.new) result }
-{
-    let mut buffer = Buffer::new();
-    put_parts(out, &[buffer.format(number).as_bytes(), b"\n"])
-}
-
-// Finishes the pending events in order, and counts them.
-fn finish_events<K: Sink>(
-    quads: &Quads,
-    pending: &[Word],
-    finished: &mut u32,
-    out: &mut K,
-) -> Result<(), Failed>
-    requires { finished.old + length pending.now < 2 ^ 32 }
-    ensures finished { OnOk result (finished.new ≡ finished.old + length pending.now) }
-    ensures all { OnOk result (K.written out.new ≡ appended (K.written out.old) (flat_map (written_by quads.now.store) pending.now)) }
-    ensures broke { OnErr result (BrokeAt pending.now finished.old finished.new (written_by quads.now.store) (K.written out.old) (K.written out.new)) }
-    ensures cause { HasCause (K.faults out.old) (K.faults out.new) result }
-{
-    for event in pending {
-        deliver(quads, *event, out)?;
-        *finished += 1;
-    }
-    Ok(())
 }

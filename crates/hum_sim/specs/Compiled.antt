@@ -1,5 +1,5 @@
 -- What a program's text is compiled to.
-use Rattle.std.specs.Prelude.{◌≡◌, List, [], ◌∷◌}
+use Rattle.std.specs.Prelude.{◌≡◌, ℕ, List, [], ◌∷◌}
 use Rattle.quad_memory.specs.Image.{RomImage}
 use Rattle.uasm_read.specs.Links.{Linked}
 use Rattle.hum_syntax.specs.declared.Tree.{Tree}
@@ -10,11 +10,12 @@ use Rattle.hum_emit.specs.Compiled.{compiled_module, layout_of}
 use Rattle.hum_front.specs.Accepted.{Accepted}
 use Rattle.hum_sim.specs.Program.{HoldsFile}
 
--- its tree, the units of its program, and the image of their code
+-- its tree, the units of its program, the image of their code, and the ROM numbers where the code stands there
 pub record Compiled : Type 0 where
   pub tree : Tree
   pub units : List TestUnit
   pub image : RomImage
+  pub places : List ℕ
 
 -- The tree is that of a text that is accepted, the units are those of its program, and the image is what the module
 -- of these links to.

@@ -3,13 +3,13 @@
 ghost use Rattle.std.specs.Prelude.{◌≡◌, ◌∷◌, [], None, IfOk, IfErr};
 ghost use Rattle.uasm_read.specs.Links.{Linked, link_fault};
 ghost use Rattle.hum_core.specs.Programs as programs;
-ghost use Rattle.hum_emit.specs.Compiled.{compiled_module};
+ghost use Rattle.hum_emit.specs.Compiled.{code_places, compiled_module, Placed};
 ghost use Rattle.hum_meaning.specs.Scope.{Scoped};
 ghost use Rattle.hum_front.specs.Accepted.{Accepted, Fails};
 ghost use Rattle.hum_sim.specs.Compiled.{IsCompiled, HoldsItsTree};
 
 use hum_core::Program;
-use hum_emit::emit;
+use hum_emit::{PlacedModule, emit_with_places};
 use hum_front::{Reading, StartError, read_text};
 use hum_match::lower;
 use hum_syntax::Tree;
@@ -18,29 +18,33 @@ use std::alloc::{AllocError as NoMemory, Global};
 use std::marker::Model;
 use uasm_link::{LinkError, link};
 
-/// What a program's text is compiled to: its tree, its program, and the image of the code of that.
+/// What a program's text is compiled to: its tree, its program, the image of the code of that, and the places of the code in the image.
 ///
-/// The tree is that of a text that is accepted, the program is the tree's, and the image is what the program's module links to.
+/// The tree is that of a text that is accepted, the program is the tree's, the image is what the program's module links to, and the places
+/// are those of the module's code.
 #[derive(Drop)]
 pub struct Compiled {
     tree: Tree,
     program: Program,
     image: Image,
+    places: Vec<u32>,
 }
 
 impl Model for Compiled {
+    ghost use Rattle.std.specs.Prelude.{◌≡◌};
     ghost use Rattle.std.specs.Coded.{codes};
     ghost use Rattle.hum_syntax.specs.contracts.tree.Stmt as stmt;
     ghost use Rattle.hum_core.specs.contracts.tested.TestUnit as unit;
     ghost use Rattle.hum_sim.specs.Compiled.{Compiled as Shown, IsCompiled};
+    ghost use Rattle.hum_emit.specs.Compiled.{code_places};
 
     ghost Value = { Shown };
 
     ghost coded = { Prim.hlevel (codes, stmt.the_row.coded, unit.the_row.coded) };
 
-    ghost view = { λ c. record { tree = c.tree; units = c.program.units; image = c.image } };
+    ghost view = { λ c. record { tree = c.tree; units = c.program.units; image = c.image; places = c.places.items } };
 
-    ghost invariant = { λ c. IsCompiled c.tree c.program.units c.image };
+    ghost invariant = { λ c. IsCompiled c.tree c.program.units c.image × (c.places.items ≡ code_places c.program.units) };
 }
 
 impl Compiled {
@@ -66,19 +70,30 @@ impl Compiled {
     {
         &self.image
     }
+
+    /// The ROM number of the first instruction of each unit of the program, and behind these that of the routine that applies a behaviour.
+    /// That is where the image holds them.
+    pub fn places(&self) -> &[u32]
+        ensures value { result.now ≡ self.now.places }
+        ensures are { self.now.places ≡ code_places self.now.units }
+        ensures placed { Placed self.now.units }
+    {
+        self.places.as_slice()
+    }
 }
 
-// The image of a tree's program. Want of memory is the only error.
-fn image_of(alloc: Global, tree: &Tree, program: &Program) -> Result<Image, NoMemory>
+// The image of a tree's program, and the places of its code there. Want of memory is the only error.
+fn image_of(alloc: Global, tree: &Tree, program: &Program) -> Result<(Image, Vec<u32>), NoMemory>
     requires scoped { Scoped tree.now.statements }
     requires units { program.now.units ≡ programs.program tree.now.statements }
     requires links { link_fault (compiled_module program.now.units ∷ []) ≡ None }
-    ensures { IfOk result (λ image. Linked (compiled_module program.now.units ∷ []) image.boot image.cells) }
+    ensures linked { IfOk result (λ made. Linked (compiled_module program.now.units ∷ []) made.0.boot made.0.cells) }
+    ensures places { IfOk result (λ made. made.1.items ≡ code_places program.now.units) }
 {
-    let module = emit(alloc, program)?;
+    let PlacedModule { module, places } = emit_with_places(alloc, program)?;
     let modules = [module];
     match link(alloc, &modules) {
-        Ok(image) => Ok(image),
+        Ok(image) => Ok((image, places)),
         Err(LinkError::NoMemory) => Err(NoMemory),
         Err(_) => unreachable!(),
     }
@@ -101,10 +116,11 @@ pub fn compile(alloc: Global, bytes: &[u8]) -> Result<Compiled, StartError>
         return Err(StartError::NoMemory);
     };
     match image_of(alloc, &tree, &program) {
-        Ok(image) => Ok(Compiled {
+        Ok((image, places)) => Ok(Compiled {
             tree,
             program,
             image,
+            places,
         }),
         Err(_) => Err(StartError::NoMemory),
     }

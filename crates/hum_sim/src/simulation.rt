@@ -6,7 +6,7 @@ ghost use Rattle.vm_turn.specs.Boot.{booted};
 ghost use Rattle.vm_turn.specs.Run.{drawn, drawn_after, pick_of};
 ghost use Rattle.vm_turn.specs.Turn.{turn};
 ghost use Rattle.vm_machine.specs.Machine.{turns_by};
-ghost use Rattle.vm_machine.specs.Turns.{Takes};
+ghost use Rattle.vm_machine.specs.Turns.{Takes, Quiet};
 ghost use Rattle.hum_sim.specs.Sim.{Stands, Completes, KeepsStanding};
 
 use crate::compiling::Compiled;
@@ -64,6 +64,7 @@ impl Sim {
     /// one as before, or for the one that the entry makes of it that the turn adds. It runs out only for its cause.
     pub fn turn<K: Sink>(&mut self, out: &mut K) -> Result<Turn, WriteFault>
         ensures turn { Takes (turn self.old.machine.state (pick_of (drawn (drawn_after self.old.machine.seed self.old.machine.turns)))) result self.old.machine.state self.new.machine.state (K.written out.old) (K.written out.new) }
+        ensures quiet { Quiet (turn self.old.machine.state (pick_of (drawn (drawn_after self.old.machine.seed self.old.machine.turns)))) result (K.written out.old) (K.written out.new) (K.faults out.old) (K.faults out.new) }
         ensures turns { self.new.machine.turns ≡ self.old.machine.turns + turns_by self.old.machine.state.out_of result }
         ensures unchanged { turns_by self.old.machine.state.out_of result ≡ 0 → self.new.machine ≡ self.old.machine }
         ensures compiled { self.new.compiled ≡ self.old.compiled }

@@ -1,18 +1,16 @@
 -- Reading files one after another.
-use Rattle.std.proofs.Common.{◌≡◌, ◌∙◌, ℕ, ◌+◌, ◌<◌, ◌≤◌, List, [], ◌∷◌, ◌++◌, length, Option, Some, None, Result, Ok, Err, refl, sym, ap, subst, inl, inr, ⊎_elim, append_assoc, append-nil, arith}
-use Rattle.std.proofs.lemmas.List.{length-replicate}
+use Rattle.std.proofs.Common.{◌≡◌, ◌∙◌, ℕ, ◌<◌, ◌≤◌, List, [], ◌∷◌, ◌++◌, length, Option, Some, Result, Ok, Err, refl, sym, ap, subst, inl, inr, ⊎_elim, append_assoc, append-nil, arith}
 use Rattle.std.proofs.lemmas.Bool.{cond-true, lt-ltb}
-use lib.ListN.{replicate}
 use Rattle.hum_outside.specs.Outside.{Files, told, Rose}
 use Rattle.uasm_read.specs.declared.error.UasmRefused.{UasmRefused}
 use Rattle.uasm_read.specs.declared.error.UasmCause.TheVariants as cause
 use Rattle.uasm_read.specs.Modules.{ModuleParts}
 use Rattle.uasm_read.specs.Assembles.{assembled, text_limit}
-use Rattle.humus.specs.Outside.{TextIs}
-use Rattle.humus.specs.Link.{HaveTexts, BadText, both, of_file, modules_of}
-use Rattle.humus.specs.Files.{IsNext, Fails, IsRead, ReadTo, LinkFails}
+use Rattle.humus.specs.Texts.{IsText, HaveTexts, IsNext, FileFails}
+use Rattle.humus.specs.Link.{BadText, both, of_file, modules_of}
+use Rattle.humus.specs.LinkParts.{ReadsAs, ReadTo, LinkFails}
 use Rattle.humus.specs.declared.answer.Answer.{Answer}
-use Rattle.humus.specs.declared.answer.Answer.TheVariants.{Done, Usage, Unread, TooLong, Fault, Spent, Bound, NoMemory, EventFailed, Refused, NotBuilt}
+use Rattle.humus.specs.declared.answer.Answer.TheVariants.{Unread, NoMemory}
 
 -- ---- lists read in two parts
 
@@ -32,22 +30,12 @@ both-end (Ok xs) = ap Ok (append-nil xs)
 
 -- ---- a text that is too long
 
-longer : (n : ℕ) → (text : List ℕ) × (n < length text)
-longer n = (replicate (n + 1) 0, omega (arith, length-replicate {A = ℕ} (n + 1) 0))
-
 long : (text : List ℕ) → text_limit < length text → Err (record { line = 1; cause = cause.TooLong }) ≡ assembled (Some text_limit) text
 long text more = sym (cond-true _ _ _ (lt-ltb text_limit (length text) more))
 
--- a file that is read to be too long has such a text, as far as it is told
-pub told_longer : (limit : ℕ) (file : Option (Option (List ℕ))) → ((bytes : List ℕ) → file ≡ Some (Some bytes) → limit < length bytes)
-    → (file ≡ Some None → ⊥) → (text : List ℕ) × TextIs (λ told. told ≡ text) file × (limit < length text)
-told_longer limit None is absent = let witness = longer limit in (witness.0, tt, witness.1)
-told_longer limit (Some None) is absent = absurd (absent refl)
-told_longer limit (Some (Some bytes)) is absent = (bytes, refl, is bytes refl)
-
-pub read_long : (file : Option (Option (List ℕ))) → ((bytes : List ℕ) → file ≡ Some (Some bytes) → text_limit < length bytes)
-    → (file ≡ Some None → ⊥) → IsRead file (Err (record { line = 1; cause = cause.TooLong }))
-read_long file is absent = let told = told_longer text_limit file is absent in (told.0, told.1, long told.0 told.2)
+pub read_long : (file : Option (Option (List ℕ))) (text : List ℕ) → IsText file text → text_limit < length text
+    → ReadsAs file (Err (record { line = 1; cause = cause.TooLong }))
+read_long file text is more = (text, is, long text more)
 
 -- ---- the files in order
 
@@ -69,7 +57,7 @@ gathers-start files names = record {
   have = tt;
 }
 
-have-more : (files : Option Files) (names texts : List (List ℕ)) (name text : List ℕ) → HaveTexts files names texts → TextIs (λ told. told ≡ text) (told files name)
+have-more : (files : Option Files) (names texts : List (List ℕ)) (name text : List ℕ) → HaveTexts files names texts → IsText (told files name) text
     → HaveTexts files (names ++ name ∷ []) (texts ++ text ∷ [])
 have-more files [] [] name text have is = (is, tt)
 have-more files [] (other ∷ texts) name text have is = absurd have
@@ -77,7 +65,7 @@ have-more files (other ∷ names) [] name text have is = absurd have
 have-more files (other ∷ names) (first ∷ texts) name text have is = (have.0, have-more files names texts name text have.1 is)
 
 pub gathers-next : {files : Option Files} {names rest : List (List ℕ)} {so_far : Result (List ModuleParts) BadText}
-    (name : List ℕ) (read : Result ModuleParts UasmRefused) → Gathers files names (name ∷ rest) so_far → IsRead (told files name) read
+    (name : List ℕ) (read : Result ModuleParts UasmRefused) → Gathers files names (name ∷ rest) so_far → ReadsAs (told files name) read
     → Gathers files names rest (both so_far (of_file name read))
 gathers-next {files} {names} {rest} {so_far} name read gathers is = record {
   more = λ texts have.
@@ -118,36 +106,28 @@ gathers-next_file name more split gathers = record {
 }
 
 pub not_read : (files : Option Files) (before mid now : ℕ) (names : List (List ℕ)) (answer : Answer) (name : List ℕ) → before ≤ mid → IsNext files names name
-    → Fails mid now (told files name) answer → LinkFails files before now names answer name
+    → FileFails mid now (told files name) answer → LinkFails files before now names answer name
 not_read files before mid now names Unread name later next fails =
     (next, ⊎_elim (λ rose. inl (rose-later before mid now later rose)) (λ none. inr none) fails)
 not_read files before mid now names NoMemory name later next fails = tt
-not_read files before mid now names Done name later next fails = absurd fails
-not_read files before mid now names Usage name later next fails = absurd fails
-not_read files before mid now names TooLong name later next fails = absurd fails
-not_read files before mid now names Fault name later next fails = absurd fails
-not_read files before mid now names (Spent kind) name later next fails = absurd fails
-not_read files before mid now names Bound name later next fails = absurd fails
-not_read files before mid now names EventFailed name later next fails = absurd fails
-not_read files before mid now names (Refused why) name later next fails = absurd fails
-not_read files before mid now names NotBuilt name later next fails = absurd fails
+not_read files before mid now names answer name later next fails = absurd fails
 
 -- the file that the rest begins with was not read
 pub next-not_read : (files : Option Files) (before mid now : ℕ) (names rest more : List (List ℕ)) (so_far : Result (List ModuleParts) BadText) (answer : Answer)
     (name given : List ℕ) (file : Option (Option (List ℕ))) → before ≤ mid → rest ≡ name ∷ more → Gathers files names rest so_far
-    → file ≡ told files name → given ≡ name → Fails mid now file answer → LinkFails files before now names answer given
+    → file ≡ told files name → given ≡ name → FileFails mid now file answer → LinkFails files before now names answer given
 next-not_read files before mid now names rest more so_far answer name given file later split gathers same called fails =
     subst (λ (n : List ℕ). LinkFails files before now names answer n) (sym called)
-    (not_read files before mid now names answer name later (gathers-next_file name more split gathers) (subst (λ (f : Option (Option (List ℕ))). Fails mid now f answer) same fails))
+    (not_read files before mid now names answer name later (gathers-next_file name more split gathers) (subst (λ (f : Option (Option (List ℕ))). FileFails mid now f answer) same fails))
 
 -- ---- one step of the walk
 
 pub gathers-step : (files : Option Files) (names rest more : List (List ℕ)) (so_far next : Result (List ModuleParts) BadText) (name given : List ℕ)
     (file : Option (Option (List ℕ))) (read : Result ModuleParts UasmRefused) → rest ≡ name ∷ more → Gathers files names rest so_far
-    → IsRead file read → file ≡ told files name → given ≡ name → next ≡ both so_far (of_file given read) → Gathers files names more next
+    → ReadsAs file read → file ≡ told files name → given ≡ name → next ≡ both so_far (of_file given read) → Gathers files names more next
 gathers-step files names rest more so_far next name given file read split gathers is same called gathered =
     subst (λ (r : Result (List ModuleParts) BadText). Gathers files names more r) (sym (gathered ∙ ap (λ (n : List ℕ). both so_far (of_file n read)) called))
-    (gathers-next name read (subst (λ (ns : List (List ℕ)). Gathers files names ns so_far) split gathers) (subst (λ (f : Option (Option (List ℕ))). IsRead f read) same is))
+    (gathers-next name read (subst (λ (ns : List (List ℕ)). Gathers files names ns so_far) split gathers) (subst (λ (f : Option (Option (List ℕ))). ReadsAs f read) same is))
 
 pub gathers-last : (files : Option Files) (names rest : List (List ℕ)) (so_far : Result (List ModuleParts) BadText) → rest ≡ []
     → Gathers files names rest so_far → ReadTo files names so_far

@@ -1,9 +1,8 @@
 mod Results
 mod Texts
-mod Causes
 mod Gathers
+mod Causes
+mod Ends
+mod TextRuns
 mod Complete
-mod Turned
-mod Driven
-mod Failures
-mod Executed
+mod RunComplete

@@ -50,21 +50,22 @@ abbrev pub number_in : Key → List (List ℕ) → Option ℕ
 number_in key [] = None
 number_in key (word ∷ words) = option_or (number_for key word) (number_in key words)
 
-abbrev pub all_keys : List Key
-all_keys = Memory ∷ Events ∷ Cycles ∷ Lanes ∷ Seed ∷ Bound ∷ []
+-- the keys of a run
+abbrev pub run_keys : List Key
+run_keys = Memory ∷ Events ∷ Cycles ∷ Lanes ∷ Seed ∷ Bound ∷ []
 
 -- a word gives a number to a key that these words give none
 abbrev pub is_new : List ℕ → List (List ℕ) → Key → Bool
 is_new word words key = is_some (number_for key word) && not (is_some (number_in key words))
 
--- a word gives one key its number, the first one
-abbrev pub gives_one : List ℕ → List (List ℕ) → Bool
-gives_one word words = list_any (is_new word words) all_keys
+-- a word gives one of these keys its number, the first one
+abbrev pub gives_one : List Key → List ℕ → List (List ℕ) → Bool
+gives_one allowed word words = list_any (is_new word words) allowed
 
--- each word gives a key its number, and no key gets two
-abbrev pub are_keys : List (List ℕ) → Bool
-are_keys [] = true
-are_keys (word ∷ words) = gives_one word words && are_keys words
+-- each word gives one of these keys its number, and no key gets two
+abbrev pub are_keys : List Key → List (List ℕ) → Bool
+are_keys allowed [] = true
+are_keys allowed (word ∷ words) = gives_one allowed word words && are_keys allowed words
 
 -- the number that words give a key, or else its default
 abbrev pub number_or : Key → List (List ℕ) → ℕ → ℕ
@@ -76,9 +77,9 @@ pub record WithinLimits (keys : Keys) : Type 0 where
   pub some_lanes : 1 ≤ keys.lanes
   pub lanes_limit : keys.lanes ≤ 64
 
--- the keys that words give, in any order; a key that they do not give has its default
-abbrev pub keys_of : List (List ℕ) → Option Keys
-keys_of words = if are_keys words then Some (record {
+-- the keys that words give, in any order, where only these are allowed; a key that they do not give has its default
+abbrev pub keys_of : List Key → List (List ℕ) → Option Keys
+keys_of allowed words = if are_keys allowed words then Some (record {
   memory = number_or Memory words 1048576;
   events = number_or Events words 65536;
   cycles = number_or Cycles words 16777216;

@@ -1,6 +1,5 @@
 -- What files are linked to, and why they are not.
-use Rattle.std.specs.Prelude.{◌≡◌, ◌⊎◌, ℕ, List, [], ◌∷◌, ◌++◌, Option, Some, Result, Ok, Err}
-use Rattle.hum_outside.specs.Outside.{Files, told}
+use Rattle.std.specs.Prelude.{◌≡◌, ◌⊎◌, ℕ, List, [], ◌∷◌, ◌++◌, Some, Result, Ok, Err}
 use Rattle.quad_memory.specs.Image.{RomImage}
 use Rattle.uasm_read.specs.declared.error.UasmRefused.{UasmRefused}
 use Rattle.uasm_read.specs.Modules.{ModuleParts}
@@ -8,19 +7,6 @@ use Rattle.uasm_read.specs.Assembles.{assembled, text_limit}
 use Rattle.uasm_read.specs.Links.{LinkFault, NameTwice, NoSuchName, BootMissing, Large, link_fault, Linked}
 use Rattle.humus.specs.declared.refusal.Refusal.{Refusal}
 use Rattle.humus.specs.declared.refusal.Refusal.TheVariants.{Module, Twice, NoSuch, NoBoot, TooLarge}
-use Rattle.humus.specs.Outside.{TextIs}
-
--- the texts of files: of a file that is told, what is told of it
-abbrev pub HaveTexts : Option Files → List (List ℕ) → List (List ℕ) → Type 0
-HaveTexts files [] [] = Unit {0}
-HaveTexts files (name ∷ names) (text ∷ texts) = TextIs (λ told. told ≡ text) (told files name) × HaveTexts files names texts
-HaveTexts files names texts = ⊥
-
--- the folder tells of each file its text
-abbrev pub AreTold : Option Files → List (List ℕ) → List (List ℕ) → Type 0
-AreTold files [] [] = Unit {0}
-AreTold files (name ∷ names) (text ∷ texts) = (told files name ≡ Some (Some text)) × AreTold files names texts
-AreTold files names texts = ⊥
 
 -- a file whose text is no module
 pub record BadText : Type 0 where

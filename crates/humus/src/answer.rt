@@ -2,10 +2,10 @@
 ghost use Rattle.std.specs.Prelude.{◌≡◌};
 ghost use Rattle.humus.specs.Answers.{status_of};
 
-use crate::refusal::Refusal;
+use crate::refusal::{Refusal, TextRefusal};
 use instr_table::Quota;
 
-/// What the program answers. For each answer its status, its line on err and its cause are defined in specs/Answers.
+/// What the program answers. Why each answer comes is defined in specs/Answers, and its line on err in specs/Refusals.
 #[derive(Drop)]
 pub enum Answer {
     /// The command was done.
@@ -14,8 +14,8 @@ pub enum Answer {
     Usage,
     /// A file could not be read.
     Unread,
-    /// A text is longer than its limit.
-    TooLong,
+    /// A text is refused.
+    TextRefused(TextRefusal),
     /// Out or err could not be written.
     Fault,
     /// The root sponsor ran out of this kind.
@@ -28,8 +28,6 @@ pub enum Answer {
     EventFailed,
     /// The contents of files are refused.
     Refused(Refusal),
-    /// A text has a form that is not built yet.
-    NotBuilt,
 }
 
 impl Answer {
@@ -41,14 +39,13 @@ impl Answer {
             Answer::Done => 0,
             Answer::Usage => 1,
             Answer::Unread => 2,
-            Answer::TooLong => 3,
+            Answer::TextRefused(_) => 3,
             Answer::Fault => 4,
             Answer::Spent(_) => 5,
             Answer::Bound => 6,
             Answer::NoMemory => 7,
             Answer::EventFailed => 9,
             Answer::Refused(_) => 10,
-            Answer::NotBuilt => 12,
         }
     }
 }

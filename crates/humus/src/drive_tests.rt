@@ -1,9 +1,7 @@
-ghost use Rattle.std.specs.Prelude.{◌≡◌, None, IfOk};
-
-use crate::drive::{Stop, WriteFault, drive, put_ending};
-use crate::failure::put_failure;
+use crate::ending::end_run;
 use cap_words::Word;
 use hum_outside::MemSink;
+use hum_run::{Stop, WriteFault, drive, report_of};
 use instr_table::{Op, Quota, encode};
 use quad_memory::{Image, NoMemory};
 use std::alloc::Global;
@@ -31,20 +29,19 @@ fn sends(rt: &impl Abort, alloc: Global) -> Result<Image, NoMemory> {
     Ok(Image::new(rom(rt, 16), cells).expect(rt, "an image"))
 }
 
-fn machine(rt: &impl Abort, alloc: Global, cycles: u32) -> Result<Machine, NoMemory>
-    ensures { IfOk result (λ m. m.state.out_of ≡ None) }
-{
+fn machine(rt: &impl Abort, alloc: Global, cycles: u32) -> Result<Machine, NoMemory> {
     let image = sends(rt, alloc)?;
     let grant = Grant::new(100, 10, cycles).expect(rt, "a grant");
     Machine::boot(alloc, &image, grant, Lanes { count: 1, seed: 0 })
 }
 
-// The cycles that are granted and the bound; why it stops, and what then stands on out and on err.
-const ROWS: [(u32, Option<u32>, Stop, &str, &str); 4] = [
+// The cycles that are granted and the bound; why it stops and its status, and what then stands on out and on err.
+const ROWS: [(u32, Option<u32>, Stop, u8, &str, &str); 4] = [
     (
         7,
         None,
         Stop::Rest,
+        9,
         "5\n",
         "event 2 failed: device refused\nfinished 3 committed 2 failed 1 spent 0 pending 0\n",
     ),
@@ -52,6 +49,7 @@ const ROWS: [(u32, Option<u32>, Stop, &str, &str); 4] = [
         7,
         Some(3),
         Stop::Rest,
+        9,
         "5\n",
         "event 2 failed: device refused\nfinished 3 committed 2 failed 1 spent 0 pending 0\n",
     ),
@@ -59,13 +57,18 @@ const ROWS: [(u32, Option<u32>, Stop, &str, &str); 4] = [
         7,
         Some(1),
         Stop::Bound,
+        6,
         "",
         "finished 1 committed 1 failed 0 spent 0 pending 2\n",
     ),
     (
         6,
         Some(1),
-        Stop::Spent(Quota::Cycles),
+        Stop::Spent {
+            kind: Quota::Cycles,
+            held: 0,
+        },
+        5,
         "",
         "spent cycles\nfinished 1 committed 0 failed 0 spent 1 pending 0\n",
     ),
@@ -74,12 +77,13 @@ const ROWS: [(u32, Option<u32>, Stop, &str, &str); 4] = [
 #[test]
 fn turns_to_an_end(rt: HostRuntime) -> Result<(), Fail> {
     let alloc = rt.alloc();
-    for (cycles, bound, stop, on_out, on_err) in ROWS {
+    for (cycles, bound, stop, status, on_out, on_err) in ROWS {
         let mut machine = machine(&rt, alloc, cycles)?;
         let mut out = MemSink::with_room(alloc, 100, 100, Vec::new(alloc))?;
         let mut err = MemSink::with_room(alloc, 100, 100, Vec::new(alloc))?;
         assert!(rt; drive(&mut machine, bound, &mut out, &mut err) == Ok(stop));
-        assert!(rt; put_ending(&mut err, &machine, stop).is_ok());
+        let answer = end_run(&mut err, stop, report_of(&machine));
+        assert_eq!(rt; answer.status(), status);
         assert_eq!(rt; out.bytes(), on_out.as_bytes());
         assert_eq!(rt; err.bytes(), on_err.as_bytes());
     }
@@ -105,42 +109,5 @@ fn faults_while_turns_are_taken(rt: HostRuntime) -> Result<(), Fail> {
         assert_eq!(rt; err.bytes(), on_err.as_bytes());
         assert_eq!(rt; machine.journal().len(), finished);
     }
-    Ok(())
-}
-
-// Reasons by their numbers, and the texts.
-const REASONS: [(i32, &str); 17] = [
-    (1, "no match"),
-    (2, "not a function"),
-    (3, "not an actor"),
-    (4, "not a number"),
-    (5, "not a truth value"),
-    (6, "second become"),
-    (7, "thrown"),
-    (8, "device refused"),
-    (9, "code 9"),
-    (16, "bad instruction"),
-    (17, "assertion failed"),
-    (18, "not fresh"),
-    (19, "not a sponsor"),
-    (20, "short"),
-    (21, "stopped"),
-    (22, "running"),
-    (-1073741824, "code -1073741824"),
-];
-
-#[test]
-fn texts_of_failures(rt: HostRuntime) -> Result<(), Fail> {
-    let alloc = rt.alloc();
-    for (number, text) in REASONS {
-        let mut err = MemSink::with_room(alloc, 100, 100, Vec::new(alloc))?;
-        let reason = Word::fix(number).expect(&rt, "a number");
-        assert!(rt; put_failure(&mut err, 12, reason).is_ok());
-        let line = format!(in alloc; "event 12 failed: {text}\n")?;
-        assert_eq!(rt; err.bytes(), line.as_bytes());
-    }
-    let mut err = MemSink::with_room(alloc, 100, 100, Vec::new(alloc))?;
-    assert!(rt; put_failure(&mut err, 0, Word::NIL).is_ok());
-    assert_eq!(rt; err.bytes(), b"event 0 failed: aborted\n".as_slice());
     Ok(())
 }

@@ -1,6 +1,10 @@
 // The keys of a run.
 ghost use Rattle.std.specs.Prelude.{◌≡◌, map, true, IfSome, string_bytes};
 ghost use Rattle.humus.specs.Keys as spec;
+ghost use Rattle.humus.specs.Grants.{grant_of, lanes_of};
+
+use vm_machine::Lanes;
+use vm_sponsor::Grant;
 
 /// What a word `KEY=N` gives a number to.
 #[derive(Clone, Copy, Debug, PartialEq, Eq)]
@@ -24,6 +28,39 @@ pub struct Keys {
     pub seed: u32,
     pub bound: Option<u32>,
 }
+
+impl Keys {
+    /// What the root sponsor is granted.
+    pub fn grant(self) -> Grant
+        requires { spec.WithinLimits self }
+        ensures { result ≡ grant_of self }
+    {
+        match Grant::new(self.memory, self.events, self.cycles) {
+            Some(grant) => grant,
+            None => unreachable!(),
+        }
+    }
+
+    /// How many events may be in flight, and the seed of the picks.
+    pub fn in_flight(self) -> Lanes
+        ensures { result ≡ lanes_of self }
+    {
+        Lanes {
+            count: self.lanes,
+            seed: self.seed,
+        }
+    }
+}
+
+/// The keys of a run.
+pub const RUN_KEYS: [Key; 6] = [
+    Key::Memory,
+    Key::Events,
+    Key::Cycles,
+    Key::Lanes,
+    Key::Seed,
+    Key::Bound,
+];
 
 impl Key {
     fn front(self) -> &'static [u8]
@@ -118,25 +155,23 @@ fn is_new(word: &[u8], words: &[String], key: Key) -> bool
     number_for(key, word).is_some() && number_in(key, words).is_none()
 }
 
-// Whether each word gives a key its number, and no key gets two.
-fn are_keys(words: &[String]) -> bool
-    ensures { result ≡ spec.are_keys (map string_bytes words.now) }
+// Whether each word gives one of these keys its number, and no key gets two.
+fn are_keys(allowed: &[Key], words: &[String]) -> bool
+    ensures { result ≡ spec.are_keys allowed.now (map string_bytes words.now) }
 {
     match words {
         [] => true,
-        [word, more @ ..] => gives_one(word.as_bytes(), more) && are_keys(more),
+        [word, more @ ..] => {
+            gives_one(allowed, word.as_bytes(), more) && are_keys(allowed, more)
+        }
     }
 }
 
-fn gives_one(word: &[u8], words: &[String]) -> bool
-    ensures { result ≡ spec.gives_one word.now (map string_bytes words.now) }
+// Whether a word gives a number to one of these keys, and these words give that key none.
+fn gives_one(allowed: &[Key], word: &[u8], words: &[String]) -> bool
+    ensures { result ≡ spec.gives_one allowed.now word.now (map string_bytes words.now) }
 {
-    is_new(word, words, Key::Memory)
-        || is_new(word, words, Key::Events)
-        || is_new(word, words, Key::Cycles)
-        || is_new(word, words, Key::Lanes)
-        || is_new(word, words, Key::Seed)
-        || is_new(word, words, Key::Bound)
+    allowed.iter().any(|key| is_new(word, words, *key))
 }
 
 // The number that the words give a key, or else its default.
@@ -151,13 +186,13 @@ fn number_or(key: Key, words: &[String], default: u32) -> u32
     }
 }
 
-/// The keys that the words give, each at most once and in any order, and the defaults of the others; None where a word gives none, or a
-/// key gets two numbers.
-pub fn keys_of(words: &[String]) -> Option<Keys>
-    ensures value { result ≡ spec.keys_of (map string_bytes words.now) }
+/// The keys that the words give, each of those allowed at most once and in any order, and the defaults of the others; None where a word gives
+/// none, or a key gets two numbers.
+pub fn keys_of(allowed: &[Key], words: &[String]) -> Option<Keys>
+    ensures value { result ≡ spec.keys_of allowed.now (map string_bytes words.now) }
     ensures limits { IfSome result spec.WithinLimits }
 {
-    if !are_keys(words) {
+    if !are_keys(allowed, words) {
         return None;
     }
     Some(Keys {

@@ -1,26 +1,27 @@
 // The files of `link`.
-ghost use Rattle.std.specs.Prelude.{◌≡◌, ◌≤◌, ℕ, List, map, Some, IfOk, IfErr, OnOk, string_bytes};
+ghost use Rattle.std.specs.Prelude.{◌≡◌, ◌≤◌, map, IfOk, IfErr, OnOk, string_bytes};
 ghost use Rattle.hum_outside.specs.Outside.{told};
-ghost use Rattle.uasm_read.specs.Assembles.{assembled, text_limit};
 ghost use Rattle.uasm_read.specs.Links.{Linked, link_fault};
-ghost use Rattle.humus.specs.Outside.{TextIs};
 ghost use Rattle.humus.specs.Link as spec;
-ghost use Rattle.humus.specs.Files.{Fails, IsRead, ReadTo, NotLinked, SpellsImage, LinkFails, LinkBytes, gathered};
+ghost use Rattle.humus.specs.Texts.{FileFails};
+ghost use Rattle.humus.specs.LinkParts.{ReadsAs, ReadTo, NotLinked, SpellsImage, LinkFails, LinkBytes, gathered};
 
 use crate::answer::Answer;
+use crate::reading::read_file;
 use crate::refusal::Refusal;
-use hum_outside::{Folder, ReadError, read_all};
+use hum_outside::Folder;
 use quad_memory::Image;
 use std::alloc::{AllocError, Global};
 use uasm_image::encode;
 use uasm_link::{LinkError, link};
 use uasm_read::{Module, ReadModuleError, UasmCause, UasmRefused, read_module};
 
-const TEXT_LIMIT: u64 = 1_048_576;
+// The most bytes that a module may have.
+const MODULE_LIMIT: u64 = 1_048_576;
 
-/// An answer, and the file that it names.
+/// An answer with which nothing is done, and the file that it names, or no name.
 #[derive(Drop)]
-pub struct Refused<'a> {
+pub struct Declined<'a> {
     pub answer: Answer,
     pub name: &'a str,
 }
@@ -50,16 +51,15 @@ fn read_one<F: Folder>(
     files: &mut F,
     name: &str,
 ) -> Result<Result<Module, UasmRefused>, Answer>
-    ensures read { IfOk result (IsRead (told (F.files files.old) name.now)) }
-    ensures fails { IfErr result (Fails (F.faults files.old) (F.faults files.new) (told (F.files files.old) name.now)) }
+    ensures read { IfOk result (ReadsAs (told (F.files files.old) name.now)) }
+    ensures fails { IfErr result (FileFails (F.faults files.old) (F.faults files.new) (told (F.files files.old) name.now)) }
     ensures later { F.faults files.old ≤ F.faults files.new }
     ensures files { F.files files.new ≡ F.files files.old }
 {
-    let text = match read_all(alloc, files, name, TEXT_LIMIT) {
-        Ok(text) => text,
-        Err(ReadError::TooLong) => return Ok(Err(TOO_LONG)),
-        Err(ReadError::Failed) => return Err(Answer::Unread),
-        Err(ReadError::NoMemory) => return Err(Answer::NoMemory),
+    let text = match read_file(alloc, files, name, MODULE_LIMIT) {
+        Ok(Some(text)) => text,
+        Ok(None) => return Ok(Err(TOO_LONG)),
+        Err(answer) => return Err(answer),
     };
     match read_module(alloc, &text) {
         Ok(module) => Ok(Ok(module)),
@@ -95,9 +95,10 @@ fn read_files<'a, F: Folder>(
     alloc: Global,
     files: &mut F,
     names: &'a [String],
-) -> Result<Gathered<'a>, Refused<'a>>
+) -> Result<Gathered<'a>, Declined<'a>>
     ensures read { IfOk result (λ all. ReadTo (F.files files.old) (map string_bytes names.now) (gathered all)) }
-    ensures fails { IfErr result (λ r. LinkFails (F.files files.old) (F.faults files.old) (F.faults files.new) (map string_bytes names.now) r.answer r.name.now) }
+    ensures fails { IfErr result (λ r.
+        LinkFails (F.files files.old) (F.faults files.old) (F.faults files.new) (map string_bytes names.now) r.answer r.name.now) }
     ensures files { F.files files.new ≡ F.files files.old }
     ensures later { F.faults files.old ≤ F.faults files.new }
 {
@@ -110,7 +111,7 @@ fn read_files<'a, F: Folder>(
         let read = match read_one(alloc, files, name.as_str()) {
             Ok(read) => read,
             Err(answer) => {
-                return Err(Refused {
+                return Err(Declined {
                     answer,
                     name: name.as_str(),
                 });
@@ -119,7 +120,7 @@ fn read_files<'a, F: Folder>(
         match gather(&mut all, name.as_str(), read) {
             Ok(()) => {}
             Err(_) => {
-                return Err(Refused {
+                return Err(Declined {
                     answer: Answer::NoMemory,
                     name: name.as_str(),
                 });
@@ -167,24 +168,25 @@ pub fn link_files<'a, F: Folder>(
     alloc: Global,
     files: &mut F,
     names: &'a [String],
-) -> Result<Vec<u8>, Refused<'a>>
+) -> Result<Vec<u8>, Declined<'a>>
     ensures bytes { IfOk result (λ bytes. LinkBytes (F.files files.old) (map string_bytes names.now) bytes.items) }
-    ensures fails { IfErr result (λ r. LinkFails (F.files files.old) (F.faults files.old) (F.faults files.new) (map string_bytes names.now) r.answer r.name.now) }
+    ensures fails { IfErr result (λ r.
+        LinkFails (F.files files.old) (F.faults files.old) (F.faults files.new) (map string_bytes names.now) r.answer r.name.now) }
     ensures files { F.files files.new ≡ F.files files.old }
     ensures later { F.faults files.old ≤ F.faults files.new }
 {
     let all = match read_files(alloc, files, names) {
         Ok(all) => all,
-        Err(refused) => return Err(refused),
+        Err(declined) => return Err(declined),
     };
     if let Some(bad) = all.bad {
-        return Err(Refused {
+        return Err(Declined {
             answer: Answer::Refused(Refusal::Module(bad.why)),
             name: bad.name,
         });
     }
     match image_bytes(alloc, &all.modules) {
         Ok(bytes) => Ok(bytes),
-        Err(answer) => Err(Refused { answer, name: "" }),
+        Err(answer) => Err(Declined { answer, name: "" }),
     }
 }

@@ -1,19 +1,20 @@
 // The file of `exec`.
 ghost use Rattle.std.specs.Prelude.{◌≡◌, ◌≤◌, ℕ, List, true, false, IfOk, IfErr};
 ghost use Rattle.hum_outside.specs.Outside.{told};
-ghost use Rattle.humus.specs.Outside.{TextIs};
-ghost use Rattle.humus.specs.Load.{Holds, Loads, is_image_file};
-ghost use Rattle.humus.specs.Loads.{FailsToHold, FileFails};
+ghost use Rattle.humus.specs.Texts.{IsText};
+ghost use Rattle.humus.specs.Images.{Holds, Loads, is_image_file, FailsToHold, LoadFails};
 
 use crate::answer::Answer;
 use crate::link::image_of;
+use crate::reading::read_file;
 use crate::refusal::Refusal;
-use hum_outside::{Folder, ReadError, read_all};
+use hum_outside::Folder;
 use quad_memory::Image;
 use std::alloc::Global;
 use uasm_image::{DecodeError, decode};
 use uasm_read::{ReadModuleError, read_module};
 
+// The most bytes that a file may have: those of the largest image.
 const FILE_LIMIT: u64 = 16_776_972;
 
 // The image whose bytes these are.
@@ -58,16 +59,15 @@ fn load(alloc: Global, bytes: &[u8]) -> Result<Image, Answer>
 ///
 /// A file of more than 16,776,972 bytes is refused before its form is looked at.
 pub fn load_file<F: Folder>(alloc: Global, files: &mut F, name: &str) -> Result<Image, Answer>
-    ensures image { IfOk result (λ image. (bytes : List ℕ) × TextIs (λ told. told ≡ bytes) (told (F.files files.old) name.now) × Loads bytes image) }
-    ensures fails { IfErr result (FileFails (F.faults files.old) (F.faults files.new) (told (F.files files.old) name.now)) }
+    ensures image { IfOk result (λ image. (bytes : List ℕ) × IsText (told (F.files files.old) name.now) bytes × Loads bytes image) }
+    ensures fails { IfErr result (LoadFails (F.faults files.old) (F.faults files.new) (told (F.files files.old) name.now)) }
     ensures files { F.files files.new ≡ F.files files.old }
     ensures later { F.faults files.old ≤ F.faults files.new }
 {
-    let bytes = match read_all(alloc, files, name, FILE_LIMIT) {
-        Ok(bytes) => bytes,
-        Err(ReadError::TooLong) => return Err(Answer::Refused(Refusal::FileTooLong)),
-        Err(ReadError::Failed) => return Err(Answer::Unread),
-        Err(ReadError::NoMemory) => return Err(Answer::NoMemory),
+    let bytes = match read_file(alloc, files, name, FILE_LIMIT) {
+        Ok(Some(bytes)) => bytes,
+        Ok(None) => return Err(Answer::Refused(Refusal::FileTooLong)),
+        Err(answer) => return Err(answer),
     };
     load(alloc, &bytes)
 }

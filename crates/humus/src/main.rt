@@ -1,16 +1,16 @@
-//! `humus run FILE` runs a Humus text; `humus link FILE FILE ..` links modules of assembly to an image;
-//! `humus exec FILE KEYS` runs an image, or a module that links alone.
+//! `humus run FILE KEYS` runs a Humus text; `humus link FILE FILE ..` links modules of assembly to an image; `humus exec FILE KEYS` runs an
+//! image, or a module that links alone.
 //!
 //! `humus_main` does what the words say over any folder and sinks; `main` calls it with the real ones.
 #![tactic(auto)]
 
 mod answer;
-mod drive;
+mod ending;
 mod exec;
-mod failure;
 mod keys;
 mod link;
 mod load;
+mod reading;
 mod record;
 mod refusal;
 mod report;
@@ -56,5 +56,7 @@ fn main(rt: HostRuntime) -> ExitCode {
 
 #[cfg(test)]
 mod drive_tests;
+#[cfg(test)]
+mod run_tests;
 #[cfg(test)]
 mod tests;

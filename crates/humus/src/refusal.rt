@@ -3,6 +3,9 @@ ghost use Rattle.std.specs.Prelude.{◌≡◌};
 ghost use Rattle.humus.specs.Refusals as spec;
 
 use cap_words::Name;
+use hum_front::LineColumn;
+use hum_lex::LexCause;
+use hum_meaning::ScopeCause;
 use uasm_image::{ImageCause, ImageRefused};
 use uasm_read::{UasmCause, UasmRefused};
 
@@ -23,6 +26,26 @@ pub enum Refusal {
     NoBoot,
     /// The modules have more items than an image has room for.
     TooLarge,
+}
+
+/// What is wrong in a text.
+#[derive(Drop)]
+pub enum TextCause {
+    /// It has no tokens.
+    Tokens(LexCause),
+    /// Its tokens spell no tree.
+    Tree,
+    /// A name of its tree is refused.
+    Name(ScopeCause, Vec<u8>),
+}
+
+/// Why a text is refused. The line of each on err is defined in specs/Refusals.
+#[derive(Drop)]
+pub enum TextRefusal {
+    /// It is longer than its limit.
+    TooLong,
+    /// Something is wrong at a line and a column.
+    At(LineColumn, TextCause),
 }
 
 /// What is said of a line that is refused.
@@ -50,5 +73,49 @@ pub fn image_cause_text(cause: ImageCause) -> &'static [u8]
         ImageCause::Word => b"word",
         ImageCause::Truncated => b"truncated",
         ImageCause::Extra => b"extra bytes",
+    }
+}
+
+fn lex_cause_text(cause: LexCause) -> &'static [u8]
+    ensures { result.now ≡ spec.lex_cause_text cause }
+{
+    match cause {
+        LexCause::BadByte => b"bad byte",
+        LexCause::BadText => b"bad text",
+        LexCause::RunTooLong => b"name too long",
+        LexCause::NumberRange => b"number out of range",
+        LexCause::NotInProfile => b"not in this profile",
+        LexCause::TooLarge => b"program too large",
+    }
+}
+
+fn scope_cause_text(cause: ScopeCause) -> &'static [u8]
+    ensures { result.now ≡ spec.scope_cause_text cause }
+{
+    match cause {
+        ScopeCause::Unbound => b"unbound name ",
+        ScopeCause::Twice => b"name bound twice ",
+        ScopeCause::TooManyNames => b"too many names",
+    }
+}
+
+/// What is said of a place in a text that is refused.
+pub fn text_cause_text(cause: &TextCause) -> &'static [u8]
+    ensures { result.now ≡ spec.text_cause_text cause.now }
+{
+    match cause {
+        TextCause::Tokens(cause) => lex_cause_text(*cause),
+        TextCause::Tree => b"not a program",
+        TextCause::Name(cause, _) => scope_cause_text(*cause),
+    }
+}
+
+/// The name that is told of, if one is.
+pub fn told_name(cause: &TextCause) -> &[u8]
+    ensures { result.now ≡ spec.told_name cause.now }
+{
+    match cause {
+        TextCause::Name(ScopeCause::Unbound | ScopeCause::Twice, name) => name,
+        _ => b"",
     }
 }

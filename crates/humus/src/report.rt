@@ -1,65 +1,78 @@
-// The lines on err.
-ghost use Rattle.std.specs.Prelude.{◌≡◌, ◌≤◌, ◌∷◌, [], codes, OnOk, OnErr};
+// The lines of refusals.
+ghost use Rattle.std.specs.Prelude.{◌≤◌, ◌∷◌, [], codes};
 ghost use Rattle.std.specs.List.{concat, flat_map};
-ghost use Rattle.hum_outside.specs.Outside.{HasCause, AppendsFront, appended};
-ghost use Rattle.humus.specs.Report.{counts_line};
-ghost use Rattle.humus.specs.Outside.{Said, writes};
-ghost use Rattle.humus.specs.Refusals.{refusal_line};
-ghost use Rattle.humus.specs.Answers.{line_of};
+ghost use Rattle.humus.specs.Writes.{Said, writes};
+ghost use Rattle.humus.specs.Refusals.{refusal_line, text_refusal_line, answer_line};
 
 use crate::answer::Answer;
-use crate::refusal::{Refusal, cause_text, image_cause_text};
-use hum_outside::{Failed, Sink, put_parts};
-use hum_run::Report;
+use crate::refusal::{
+    Refusal, TextRefusal, cause_text, image_cause_text, text_cause_text, told_name,
+};
+use hum_outside::{Sink, put_parts};
 use itoa::Buffer;
-
-/// Writes the line of counts.
-pub fn put_counts<K: Sink>(sink: &mut K, report: Report) -> Result<(), Failed>
-    ensures all { OnOk result (K.written sink.new ≡ appended (K.written sink.old) (counts_line report)) }
-    ensures front { OnErr result (AppendsFront (K.written sink.old) (K.written sink.new) (counts_line report)) }
-    ensures cause { HasCause (K.faults sink.old) (K.faults sink.new) result }
-{
-    let (mut finished, mut committed) = (Buffer::new(), Buffer::new());
-    let (mut failed, mut spent, mut pending) = (Buffer::new(), Buffer::new(), Buffer::new());
-    put_parts(
-        sink,
-        &[
-            b"finished ",
-            finished.format(report.finished).as_bytes(),
-            b" committed ",
-            committed.format(report.committed).as_bytes(),
-            b" failed ",
-            failed.format(report.failed).as_bytes(),
-            b" spent ",
-            spent.format(report.spent).as_bytes(),
-            b" pending ",
-            pending.format(report.pending).as_bytes(),
-            b"\n",
-        ],
-    )
-}
 
 /// Writes the line of a refusal, if it has one. A fault is let pass: the refusal's status tells more.
 pub fn refuse<K: Sink>(err: &mut K, answer: &Answer, name: &str)
     ensures later { K.faults err.old ≤ K.faults err.new }
-    ensures said { Said (writes (K.written err.old) (K.written err.new) (K.faults err.old) (K.faults err.new)) (line_of answer.now name.now) }
+    ensures said { Said (writes K.written K.faults err.old err.new) (answer_line answer.now name.now) }
 {
     let name = name.as_bytes();
     match answer {
         Answer::Done | Answer::Fault | Answer::Spent(_) | Answer::Bound | Answer::EventFailed => {}
         Answer::Usage => say(err, &[b"usage: humus COMMAND FILE.. [KEY=N..]\n"]),
         Answer::Unread => say(err, &[b"cannot read ", name, b"\n"]),
-        Answer::TooLong => say(err, &[name, b": text too long\n"]),
         Answer::NoMemory => say(err, &[b"no memory\n"]),
+        Answer::TextRefused(why) => refuse_text(err, why, name),
         Answer::Refused(why) => refuse_contents(err, why, name),
-        Answer::NotBuilt => say(err, &[name, b": not built yet\n"]),
     }
+}
+
+// Writes the line of a refused text.
+fn refuse_text<K: Sink>(err: &mut K, why: &TextRefusal, name: &[u8])
+    ensures later { K.faults err.old ≤ K.faults err.new }
+    ensures said { Said (writes K.written K.faults err.old err.new) (text_refusal_line why.now name.now) }
+{
+    match why {
+        TextRefusal::TooLong => say(err, &[name, b": text too long\n"]),
+        TextRefusal::At(place, cause) => {
+            let (mut line, mut column) = (Buffer::new(), Buffer::new());
+            let line = line.format(place.line).as_bytes();
+            let column = column.format(place.column).as_bytes();
+            say_place(
+                err,
+                name,
+                line,
+                column,
+                text_cause_text(cause),
+                told_name(cause),
+            );
+        }
+    }
+}
+
+// Writes what is said of a place in the text of that name.
+fn say_place<'a, K: Sink>(
+    err: &mut K,
+    name: &'a [u8],
+    line: &'a [u8],
+    column: &'a [u8],
+    cause: &'a [u8],
+    told: &'a [u8],
+)
+    ensures later { K.faults err.old ≤ K.faults err.new }
+    ensures said { Said (writes K.written K.faults err.old err.new)
+        (concat (name.now ∷ codes ":" ∷ line.now ∷ codes ":" ∷ column.now ∷ codes ": " ∷ cause.now ∷ told.now ∷ codes "\n" ∷ [])) }
+{
+    say(
+        err,
+        &[name, b":", line, b":", column, b": ", cause, told, b"\n"],
+    );
 }
 
 // Writes the line of refused contents.
 fn refuse_contents<K: Sink>(err: &mut K, why: &Refusal, name: &[u8])
     ensures later { K.faults err.old ≤ K.faults err.new }
-    ensures said { Said (writes (K.written err.old) (K.written err.new) (K.faults err.old) (K.faults err.new)) (refusal_line why.now name.now) }
+    ensures said { Said (writes K.written K.faults err.old err.new) (refusal_line why.now name.now) }
 {
     match why {
         Refusal::FileTooLong => say(err, &[name, b": file too long\n"]),
@@ -83,7 +96,8 @@ fn refuse_contents<K: Sink>(err: &mut K, why: &Refusal, name: &[u8])
 // Writes what is said of a line of the file of that name.
 fn say_at<'a, K: Sink>(err: &mut K, name: &'a [u8], line: &'a [u8], cause: &'a [u8])
     ensures later { K.faults err.old ≤ K.faults err.new }
-    ensures said { Said (writes (K.written err.old) (K.written err.new) (K.faults err.old) (K.faults err.new)) (concat (name.now ∷ codes ":" ∷ line.now ∷ codes ": " ∷ cause.now ∷ codes "\n" ∷ [])) }
+    ensures said { Said (writes K.written K.faults err.old err.new)
+        (concat (name.now ∷ codes ":" ∷ line.now ∷ codes ": " ∷ cause.now ∷ codes "\n" ∷ [])) }
 {
     say(err, &[name, b":", line, b": ", cause, b"\n"]);
 }
@@ -91,7 +105,8 @@ fn say_at<'a, K: Sink>(err: &mut K, name: &'a [u8], line: &'a [u8], cause: &'a [
 // Writes what is said of a place in the image of that name.
 fn say_image<'a, K: Sink>(err: &mut K, name: &'a [u8], at: &'a [u8], cause: &'a [u8])
     ensures later { K.faults err.old ≤ K.faults err.new }
-    ensures said { Said (writes (K.written err.old) (K.written err.new) (K.faults err.old) (K.faults err.new)) (concat (name.now ∷ codes ": image refused at " ∷ at.now ∷ codes ": " ∷ cause.now ∷ codes "\n" ∷ [])) }
+    ensures said { Said (writes K.written K.faults err.old err.new)
+        (concat (name.now ∷ codes ": image refused at " ∷ at.now ∷ codes ": " ∷ cause.now ∷ codes "\n" ∷ [])) }
 {
     say(
         err,
@@ -102,7 +117,7 @@ fn say_image<'a, K: Sink>(err: &mut K, name: &'a [u8], at: &'a [u8], cause: &'a 
 // Writes a line, and lets a fault pass.
 fn say<K: Sink>(sink: &mut K, parts: &[&[u8]])
     ensures later { K.faults sink.old ≤ K.faults sink.new }
-    ensures said { Said (writes (K.written sink.old) (K.written sink.new) (K.faults sink.old) (K.faults sink.new)) (flat_map (λ part. part.now) parts.now) }
+    ensures said { Said (writes K.written K.faults sink.old sink.new) (flat_map (λ part. part.now) parts.now) }
 {
     let _ = put_parts(sink, parts);
 }

@@ -1,17 +1,11 @@
 // The whole program over any folder and sinks.
-ghost use Rattle.std.specs.Prelude.{◌≡◌, ◌⊎◌, ◌≤◌, ℕ, ℤ, List, length, map, Option, Some, None, Ok, string_bytes};
-ghost use Rattle.hum_outside.specs.Outside.{told, Rose};
-ghost use Rattle.uasm_read.specs.Modules.{ModuleParts};
-ghost use Rattle.uasm_read.specs.Links.{link_fault};
-ghost use Rattle.hum_run.specs.Text.{IsFirstForm};
-ghost use Rattle.humus.specs.Outside.{writes};
+ghost use Rattle.std.specs.Prelude.{◌≡◌, ◌≤◌, map, string_bytes};
 ghost use Rattle.humus.specs.Keys.{WithinLimits};
-ghost use Rattle.humus.specs.Words as asked;
-ghost use Rattle.humus.specs.Link.{AreTold, modules_of};
-ghost use Rattle.humus.specs.Load.{Loads};
-ghost use Rattle.humus.specs.declared.keys.Keys.{Keys as AnyKeys};
-ghost use Rattle.quad_memory.specs.Image.{RomImage};
-ghost use Rattle.humus.specs.Answers.{Answered, EndsRun, status_of, text_limit};
+ghost use Rattle.humus.specs.Call.{call};
+ghost use Rattle.humus.specs.RunAnswers.{RunAnswers};
+ghost use Rattle.humus.specs.LinkAnswers.{LinkAnswers};
+ghost use Rattle.humus.specs.ExecAnswers.{ExecAnswers};
+ghost use Rattle.humus.specs.Answers.{Answered, Completes, status_of};
 ghost use Rattle.humus.specs.declared.answer.Answer.{Answer as AnyAnswer};
 ghost use Rattle.humus.specs.declared.record.Record.{Record as AnyRecord};
 
@@ -22,48 +16,39 @@ use crate::link::link_files;
 use crate::load::load_file;
 use crate::record::Record;
 use crate::report::refuse;
-use crate::run::{finish, load_run};
+use crate::run::{finish_run, start_file};
 use crate::words::{Command, command_of};
-use hum_outside::{Failed, Folder, Sink, put_all};
+use hum_outside::{Folder, Sink, put_all};
 use std::alloc::Global;
 
-// Runs the text of a file.
-fn run_text<F: Folder, K: Sink>(
+// Runs the text that a file holds.
+fn run_file<F: Folder, K: Sink>(
     alloc: Global,
     name: &str,
+    keys: Keys,
     files: &mut F,
     out: &mut K,
     err: &mut K,
     last: &mut Record,
 ) -> Answer
-    ensures answered { (words : List (List ℕ)) → asked.command_of words ≡ Some (asked.Run name.now) → Answered result (record {
-      words = words;
-      files = F.files files.old;
-      faults_old = F.faults files.old;
-      faults_new = F.faults files.new;
-      out = writes (K.written out.old) (K.written out.new) (K.faults out.old) (K.faults out.new);
-      err = writes (K.written err.old) (K.written err.new) (K.faults err.old) (K.faults err.new);
-      last_old = last.old;
-      last_new = last.new;
-    }) }
+    requires { WithinLimits keys }
+    ensures answered { RunAnswers name.now keys result
+        (call F.files F.faults K.written K.faults files.old files.new out.old out.new err.old err.new last.old last.new) }
     ensures files { F.files files.new ≡ F.files files.old }
     ensures files_later { F.faults files.old ≤ F.faults files.new }
     ensures out_later { K.faults out.old ≤ K.faults out.new }
     ensures err_later { K.faults err.old ≤ K.faults err.new }
 {
-    match load_run(alloc, files, name) {
+    match start_file(alloc, files, name, keys) {
+        Ok(run) => {
+            let mut run = run;
+            let answer = finish_run(&mut run, keys, out, err);
+            last.leave_run(run);
+            answer
+        }
         Err(answer) => {
             refuse(err, &answer, name);
             answer
-        }
-        Ok(run) => {
-            let mut run = run;
-            let finished = finish(&mut run, out, err);
-            last.leave_run(run);
-            match finished {
-                Ok(()) => Answer::Done,
-                Err(Failed) => Answer::Fault,
-            }
         }
     }
 }
@@ -76,26 +61,17 @@ fn link_to<F: Folder, K: Sink>(
     out: &mut K,
     err: &mut K,
 ) -> Answer
-    ensures answered { (words : List (List ℕ)) (last : AnyRecord) →
-        asked.command_of words ≡ Some (asked.Link (map string_bytes names.now)) → Answered result (record {
-          words = words;
-          files = F.files files.old;
-          faults_old = F.faults files.old;
-          faults_new = F.faults files.new;
-          out = writes (K.written out.old) (K.written out.new) (K.faults out.old) (K.faults out.new);
-          err = writes (K.written err.old) (K.written err.new) (K.faults err.old) (K.faults err.new);
-          last_old = last;
-          last_new = last;
-        }) }
+    ensures answered { (last : AnyRecord) → LinkAnswers (map string_bytes names.now) result
+        (call F.files F.faults K.written K.faults files.old files.new out.old out.new err.old err.new last last) }
     ensures files { F.files files.new ≡ F.files files.old }
     ensures files_later { F.faults files.old ≤ F.faults files.new }
     ensures out_later { K.faults out.old ≤ K.faults out.new }
     ensures err_later { K.faults err.old ≤ K.faults err.new }
 {
     match link_files(alloc, files, names) {
-        Err(refused) => {
-            refuse(err, &refused.answer, refused.name);
-            refused.answer
+        Err(declined) => {
+            refuse(err, &declined.answer, declined.name);
+            declined.answer
         }
         Ok(bytes) => match put_all(out, &bytes) {
             Ok(_) => Answer::Done,
@@ -115,16 +91,8 @@ fn exec_file<F: Folder, K: Sink>(
     last: &mut Record,
 ) -> Answer
     requires { WithinLimits keys }
-    ensures answered { (words : List (List ℕ)) → asked.command_of words ≡ Some (asked.Exec name.now keys) → Answered result (record {
-      words = words;
-      files = F.files files.old;
-      faults_old = F.faults files.old;
-      faults_new = F.faults files.new;
-      out = writes (K.written out.old) (K.written out.new) (K.faults out.old) (K.faults out.new);
-      err = writes (K.written err.old) (K.written err.new) (K.faults err.old) (K.faults err.new);
-      last_old = last.old;
-      last_new = last.new;
-    }) }
+    ensures answered { ExecAnswers name.now keys result
+        (call F.files F.faults K.written K.faults files.old files.new out.old out.new err.old err.new last.old last.new) }
     ensures files { F.files files.new ≡ F.files files.old }
     ensures files_later { F.faults files.old ≤ F.faults files.new }
     ensures out_later { K.faults out.old ≤ K.faults out.new }
@@ -140,7 +108,7 @@ fn exec_file<F: Folder, K: Sink>(
     match booted(alloc, &image, keys) {
         Ok(machine) => {
             let mut machine = machine;
-            let answer = run_machine(&mut machine, keys, out, err);
+            let answer = run_machine(&mut machine, keys.bound, out, err);
             last.leave_machine(machine);
             answer
         }
@@ -160,16 +128,8 @@ fn answer<F: Folder, K: Sink>(
     err: &mut K,
     last: &mut Record,
 ) -> Answer
-    ensures answered { Answered result (record {
-      words = map string_bytes words.now;
-      files = F.files files.old;
-      faults_old = F.faults files.old;
-      faults_new = F.faults files.new;
-      out = writes (K.written out.old) (K.written out.new) (K.faults out.old) (K.faults out.new);
-      err = writes (K.written err.old) (K.written err.new) (K.faults err.old) (K.faults err.new);
-      last_old = last.old;
-      last_new = last.new;
-    }) }
+    ensures answered { Answered (map string_bytes words.now) result
+        (call F.files F.faults K.written K.faults files.old files.new out.old out.new err.old err.new last.old last.new) }
     ensures files { F.files files.new ≡ F.files files.old }
     ensures files_later { F.faults files.old ≤ F.faults files.new }
     ensures out_later { K.faults out.old ≤ K.faults out.new }
@@ -180,19 +140,20 @@ fn answer<F: Folder, K: Sink>(
             refuse(err, &Answer::Usage, "");
             Answer::Usage
         }
-        Some(Command::Run(name)) => run_text(alloc, name, files, out, err, last),
+        Some(Command::Run(name, keys)) => run_file(alloc, name, keys, files, out, err, last),
         Some(Command::Link(names)) => link_to(alloc, names, files, out, err),
         Some(Command::Exec(name, keys)) => exec_file(alloc, name, keys, files, out, err, last),
     }
 }
 
-/// Does what the words say over these files and sinks, and gives the exit status; `last` is left the run or the machine, if one was
-/// started.
+/// Does what the words say over these files and sinks, and gives the exit status; `last` is left the run or the machine, if one was started.
 ///
-/// The words are `run FILE`, `link FILE FILE ..` or `exec FILE KEYS`. The statuses, their causes and what each leaves are the definitions
-/// of specs/Answers: 0 done, 1 the words have no form, 2 a file could not be read, 3 a text is too long, 4 a write failed, 5 the root ran
-/// out, 6 the bound is reached, 7 no memory, 9 an event failed, 10 an image, a module or linking is refused, 12 the text has a form that
-/// is not built yet.
+/// The words are `run FILE KEYS`, `link FILE FILE ..` or `exec FILE KEYS`. The statuses, their causes and what each leaves are the definitions
+/// of specs/Answers: 0 done, 1 the words have no form, 2 a file could not be read, 3 a text is refused, 4 a write failed, 5 the root ran out, 6
+/// the bound is reached, 7 no memory, 9 an event failed, 10 an image, a module or linking is refused.
+///
+/// For `run`, out has exactly the output of the configuration that the deliveries of the machine's journal lead to, and err the lines of the
+/// events that failed and those that end the run; the run that is left stands for that configuration.
 pub fn humus_main<F: Folder, K: Sink>(
     alloc: Global,
     words: &[String],
@@ -202,39 +163,12 @@ pub fn humus_main<F: Folder, K: Sink>(
     last: &mut Record,
 ) -> u8
     // The status is that of an answer that came by its cause, and left what it says.
-    ensures answered { (answer : AnyAnswer) × (result ≡ status_of answer) × Answered answer (record {
-      words = map string_bytes words.now;
-      files = F.files files.old;
-      faults_old = F.faults files.old;
-      faults_new = F.faults files.new;
-      out = writes (K.written out.old) (K.written out.new) (K.faults out.old) (K.faults out.new);
-      err = writes (K.written err.old) (K.written err.new) (K.faults err.old) (K.faults err.new);
-      last_old = last.old;
-      last_new = last.new;
-    }) }
+    ensures answered { (answer : AnyAnswer) × (result ≡ status_of answer) × Answered (map string_bytes words.now) answer
+        (call F.files F.faults K.written K.faults files.old files.new out.old out.new err.old err.new last.old last.new) }
 
-    // A text within the limit that has the form is run to its end, where no count rises and there is memory.
-    ensures complete { (name bytes : List ℕ) (numbers : List ℤ) →
-        asked.command_of (map string_bytes words.now) ≡ Some (asked.Run name) → told (F.files files.old) name ≡ Some (Some bytes) →
-        length bytes ≤ text_limit → IsFirstForm bytes numbers →
-        ¬ (Rose (F.faults files.old) (F.faults files.new)) →
-        ¬ (Rose (K.faults out.old) (K.faults out.new)) →
-        ¬ (Rose (K.faults err.old) (K.faults err.new)) → (result ≡ 0) ⊎ (result ≡ 7) }
-
-    // Files whose texts are modules that link are linked, where no count rises and there is memory.
-    ensures links { (names texts : List (List ℕ)) (modules : List ModuleParts) →
-        asked.command_of (map string_bytes words.now) ≡ Some (asked.Link names) → AreTold (F.files files.old) names texts →
-        modules_of names texts ≡ Ok modules → link_fault modules ≡ None →
-        ¬ (Rose (F.faults files.old) (F.faults files.new)) →
-        ¬ (Rose (K.faults out.old) (K.faults out.new)) → (result ≡ 0) ⊎ (result ≡ 7) }
-
-    // A file that holds an image is run: to rest, until the root runs out, or to the bound, where no count rises and there is memory.
-    ensures runs { (name bytes : List ℕ) (keys : AnyKeys) (image : RomImage) →
-        asked.command_of (map string_bytes words.now) ≡ Some (asked.Exec name keys) → told (F.files files.old) name ≡ Some (Some bytes) →
-        Loads bytes image →
-        ¬ (Rose (F.faults files.old) (F.faults files.new)) →
-        ¬ (Rose (K.faults out.old) (K.faults out.new)) →
-        ¬ (Rose (K.faults err.old) (K.faults err.new)) → EndsRun keys.bound result }
+    // Where nothing fails, what the words ask for is done or refused.
+    ensures completes { Completes (map string_bytes words.now) result
+        (call F.files F.faults K.written K.faults files.old files.new out.old out.new err.old err.new last.old last.new) }
 
     // The folder tells the files that it told, and no count fell.
     ensures files { F.files files.new ≡ F.files files.old }

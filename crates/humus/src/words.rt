@@ -4,13 +4,13 @@ ghost use Rattle.std.specs.Option.{option_map};
 ghost use Rattle.std.specs.List.{list_all};
 ghost use Rattle.humus.specs.Words as spec;
 
-use crate::keys::{Keys, keys_of};
+use crate::keys::{Keys, RUN_KEYS, keys_of};
 
 /// What the words ask for.
 #[derive(Clone, Copy, Debug, PartialEq, Eq)]
 pub enum Command<'a> {
-    /// `run FILE`: a text is run.
-    Run(&'a str),
+    /// `run FILE KEYS`: a text is run.
+    Run(&'a str, Keys),
     /// `link FILE FILE ..`: 1 to 64 modules are linked.
     Link(&'a [String]),
     /// `exec FILE KEYS`: an image or a module is run.
@@ -26,19 +26,9 @@ fn are_files(words: &[String]) -> bool
     }
 }
 
-fn run_of(words: &[String]) -> Option<Command<'_>>
-    ensures value { option_map spec.command result ≡ spec.run_of (map string_bytes words.now) }
-    ensures limits { IfSome result (λ command. spec.KeysFit (spec.command command)) }
-{
-    match words {
-        [name] if !name.is_empty() => Some(Command::Run(name.as_str())),
-        _ => None,
-    }
-}
-
 fn link_of(words: &[String]) -> Option<Command<'_>>
-    ensures value { option_map spec.command result ≡ spec.link_of (map string_bytes words.now) }
-    ensures limits { IfSome result (λ command. spec.KeysFit (spec.command command)) }
+    ensures value { option_map spec.request result ≡ spec.link_of (map string_bytes words.now) }
+    ensures limits { IfSome result (λ command. spec.KeysFit (spec.request command)) }
 {
     if words.len() >= 1 && words.len() <= 64 && are_files(words) {
         Some(Command::Link(words))
@@ -47,12 +37,25 @@ fn link_of(words: &[String]) -> Option<Command<'_>>
     }
 }
 
-fn exec_of(words: &[String]) -> Option<Command<'_>>
-    ensures value { option_map spec.command result ≡ spec.exec_of (map string_bytes words.now) }
-    ensures limits { IfSome result (λ command. spec.KeysFit (spec.command command)) }
+fn run_of(words: &[String]) -> Option<Command<'_>>
+    ensures value { option_map spec.request result ≡ spec.run_of (map string_bytes words.now) }
+    ensures limits { IfSome result (λ command. spec.KeysFit (spec.request command)) }
 {
     match words {
-        [name, keys @ ..] if !name.is_empty() => match keys_of(keys) {
+        [name, keys @ ..] if !name.is_empty() => match keys_of(&RUN_KEYS, keys) {
+            Some(keys) => Some(Command::Run(name.as_str(), keys)),
+            None => None,
+        },
+        _ => None,
+    }
+}
+
+fn exec_of(words: &[String]) -> Option<Command<'_>>
+    ensures value { option_map spec.request result ≡ spec.exec_of (map string_bytes words.now) }
+    ensures limits { IfSome result (λ command. spec.KeysFit (spec.request command)) }
+{
+    match words {
+        [name, keys @ ..] if !name.is_empty() => match keys_of(&RUN_KEYS, keys) {
             Some(keys) => Some(Command::Exec(name.as_str(), keys)),
             None => None,
         },
@@ -62,8 +65,8 @@ fn exec_of(words: &[String]) -> Option<Command<'_>>
 
 /// The command that the words after the program's name ask for, or None where they have no form.
 pub fn command_of(words: &[String]) -> Option<Command<'_>>
-    ensures value { option_map spec.command result ≡ spec.command_of (map string_bytes words.now) }
-    ensures limits { IfSome result (λ command. spec.KeysFit (spec.command command)) }
+    ensures value { option_map spec.request result ≡ spec.request_of (map string_bytes words.now) }
+    ensures limits { IfSome result (λ command. spec.KeysFit (spec.request command)) }
 {
     match words {
         [] => None,

@@ -8,8 +8,6 @@ mod parsing;
 #[cfg(test)]
 mod patterns;
 #[cfg(test)]
-mod runs;
-#[cfg(test)]
 mod scope;
 #[cfg(test)]
 mod texts;

@@ -455,6 +455,7 @@ fn a_root_that_ran_out_stays_so(rt: HostRuntime) -> Result<(), Fail> {
     for _ in 0..4 {
         let _turn = machine.turn(&mut out);
     }
+    assert!(rt; machine.ran_out().is_none());
     for _ in 0..2 {
         let turn = machine.turn(&mut out);
         assert!(rt;
@@ -467,6 +468,7 @@ fn a_root_that_ran_out_stays_so(rt: HostRuntime) -> Result<(), Fail> {
             )
         );
     }
+    assert!(rt; machine.ran_out() == Some(Quota::Cycles));
     assert!(rt; machine.turns() == 5);
     assert!(rt; machine.actor_at(3).is_none());
     Ok(())

@@ -67,6 +67,9 @@ fn amounts_move_between_sponsors(rt: HostRuntime) -> Result<(), Fail> {
     assert_eq!(rt; itself, Ok(()));
     assert_eq!(rt; held(&rt, &sheet, &quads, 0), (6, 10, 10));
     assert_eq!(rt; held(&rt, &sheet, &quads, 1), (4, 0, 0));
+    let child = sponsor(&rt, &sheet, &quads, 1);
+    assert_eq!(rt; sheet.held(&quads, child, Quota::Memory), 4);
+    assert_eq!(rt; sheet.held(&quads, Word::NIL, Quota::Memory), 0);
     Ok(())
 }
 

@@ -20,6 +20,7 @@ mod Instructed
 mod Taking
 mod Booting
 mod Delivering
+mod Quiet
 mod Turning
 mod Waiting
 mod Unwritten

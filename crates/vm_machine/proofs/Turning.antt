@@ -70,14 +70,18 @@ pub found-loose : (s : State) (b : Bool) (number : ℕ) (given : List W) → (b 
 found-loose s b number given w h e = let x : Some (message_of given number) ≡ None = h ∙ sym (waits-next s (w e)) in cc
 
 -- the message that was found is the one that the turn dispatches
+pub dispatch-turn : (p q : Parts) (b : Bool) (pick number : ℕ) (o : Option ℕ) → q ≡ record p { stuck = b } → p.out_of ≡ None → o ≡ Some number → option_map (message_of p.queue.given) o ≡ dispatchable (state_of p)
+    → turn (state_of p) pick ≡ dispatch (state_of q) number (sent_at (state_of q).store (event_of q.queue.given number)) (device_of (sent_at (state_of q).store (event_of q.queue.given number)).target)
+dispatch-turn p q b pick number o same out is found =
+    turn-dispatches (state_of p) pick number p.queue.given out (subst (λ (x : Option ℕ). option_map (message_of p.queue.given) x ≡ dispatchable (state_of p)) is found)
+    ∙ sym (ap (λ (x : Parts). dispatch (state_of x) number (sent_at (state_of x).store (event_of x.queue.given number)) (device_of (sent_at (state_of x).store (event_of x.queue.given number)).target)) same)
+
 pub dispatch-takes : (p q : Parts) (b : Bool) (t : State) (pick number : ℕ) (o : Option ℕ) (r : Result Answer WriteFault) (before after : Option (List ℕ)) → q ≡ record p { stuck = b } → p.out_of ≡ None → o ≡ Some number → option_map (message_of p.queue.given) o ≡ dispatchable (state_of p)
     → Takes (dispatch (state_of q) number (sent_at (state_of q).store (event_of q.queue.given number)) (device_of (sent_at (state_of q).store (event_of q.queue.given number)).target)) r (state_of q) t before after
     → Takes (turn (state_of p) pick) r (state_of p) t before after
 dispatch-takes p q b t pick number o r before after same out is found h =
-    let dispatched = subst (λ (x : Parts). Takes (dispatch (state_of x) number (sent_at (state_of x).store (event_of x.queue.given number)) (device_of (sent_at (state_of x).store (event_of x.queue.given number)).target)) r (state_of x) t before after) same h in
-    subst (λ (x : State × Answer). Takes x r (state_of p) t before after)
-    (sym (turn-dispatches (state_of p) pick number p.queue.given out (subst (λ (x : Option ℕ). option_map (message_of p.queue.given) x ≡ dispatchable (state_of p)) is found)))
-    dispatched
+    subst (λ (s : State). Takes (turn (state_of p) pick) r s t before after) (ap state_of same)
+    (subst (λ (x : State × Answer). Takes x r (state_of q) t before after) (sym (dispatch-turn p q b pick number o same out is found)) h)
 
 -- where none was found the turn is the instruction
 pub one-turns : (s t : State) (pick : ℕ) (a : Answer) (o : Option ℕ) (given : List W) → s.out_of ≡ None → o ≡ None → option_map (message_of given) o ≡ dispatchable s → TakesOne s pick t a → turn s pick ≡ (t, a)

@@ -15,7 +15,7 @@ ghost use Rattle.vm_turn.specs.Turn.{is_in_flight, turn};
 ghost use Rattle.vm_machine.specs.Flight.{flight_of};
 ghost use Rattle.vm_machine.specs.Machine.{drawn_run, turns_by};
 ghost use Rattle.vm_machine.specs.Messages.{is_among, unfinished};
-ghost use Rattle.vm_machine.specs.Turns.{Takes};
+ghost use Rattle.vm_machine.specs.Turns.{Takes, Quiet};
 
 use crate::NoMemory;
 use crate::boot::boot;
@@ -131,9 +131,10 @@ impl Machine {
     }
 
     /// One turn, over the next pick of the seed. A call that finds the machine at rest, or its root run out, or a write that fails draws
-    /// none: the next call draws the same, and nothing of the machine has changed.
+    /// none: the next call draws the same, and nothing of the machine has changed. A turn that writes nothing cannot fail.
     pub fn turn<K: Sink>(&mut self, out: &mut K) -> Result<Turn, WriteFault>
         ensures turn { Takes (turn self.old.state (pick_of (drawn (drawn_after self.old.seed self.old.turns)))) result self.old.state self.new.state (K.written out.old) (K.written out.new) }
+        ensures quiet { Quiet (turn self.old.state (pick_of (drawn (drawn_after self.old.seed self.old.turns)))) result (K.written out.old) (K.written out.new) (K.faults out.old) (K.faults out.new) }
         ensures turns { self.new.turns ≡ self.old.turns + turns_by self.old.state.out_of result }
         ensures unchanged { turns_by self.old.state.out_of result ≡ 0 → self.new ≡ self.old }
         ensures image { self.new.image ≡ self.old.image }
@@ -163,9 +164,17 @@ impl Machine {
         self.turns
     }
 
+    /// What the root sponsor ran out of, if it did: no turn is taken after that.
+    pub fn ran_out(&self) -> Option<Quota>
+        ensures { result ≡ self.now.state.out_of }
+    {
+        self.parts.out_of
+    }
+
     /// The entries of the events that ended, in order.
     pub fn journal(&self) -> &[Entry]
-        ensures { result.now ≡ self.now.state.journal }
+        ensures value { result.now ≡ self.now.state.journal }
+        ensures few { length result.now < 2 ^ 32 }
     {
         &self.parts.journal
     }

@@ -4,7 +4,7 @@ ghost use Rattle.std.specs.Prelude.{◌≡◌, ◌≤◌, IfOk};
 ghost use Rattle.hum_outside.specs.Outside.{HasCause};
 ghost use Rattle.vm_turn.specs.Boot.{booted};
 ghost use Rattle.vm_turn.specs.Turn.{turn};
-ghost use Rattle.vm_machine.specs.Turns.{Takes};
+ghost use Rattle.vm_machine.specs.Turns.{Takes, Quiet};
 
 use crate::NoMemory;
 use crate::boot::boot;
@@ -53,9 +53,11 @@ impl Core {
     /// the pick says takes one instruction. What the turn writes is appended to `out`.
     ///
     /// Rest comes exactly where nothing is in flight and no message can go. Spent comes where the root sponsor ran out, in this call or
-    /// before; later calls change nothing. Where a write fails the machine is as it was, and the message is still pending.
+    /// before; later calls change nothing. Where a write fails the machine is as it was, and the message is still pending. A turn that
+    /// writes nothing cannot fail so.
     pub fn turn_with<K: Sink>(&mut self, pick: u32, out: &mut K) -> Result<Turn, WriteFault>
         ensures turn { Takes (turn self.old pick) result self.old self.new (K.written out.old) (K.written out.new) }
+        ensures quiet { Quiet (turn self.old pick) result (K.written out.old) (K.written out.new) (K.faults out.old) (K.faults out.new) }
         ensures cause { HasCause (K.faults out.old) (K.faults out.new) result }
     {
         turn(&mut self.parts, &mut self.scratch, pick, out)

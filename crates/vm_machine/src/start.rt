@@ -15,7 +15,7 @@ ghost use Rattle.vm_step.specs.declared.lane.Lane.{Lane};
 ghost use Rattle.vm_machine.specs.View.{state_of};
 ghost use Rattle.vm_machine.specs.Whole.{Kept};
 ghost use Rattle.vm_machine.specs.Deliveries.{end_by};
-ghost use Rattle.vm_machine.specs.Turns.{Takes};
+ghost use Rattle.vm_machine.specs.Turns.{Takes, Quiet};
 
 use crate::parts::{Parts, note};
 use cap_words::{Word, is_same};
@@ -73,6 +73,7 @@ fn deliver<K: Sink>(
     requires device { device < 2 }
     ensures kept { Kept parts.new }
     ensures turn { Takes (deliver (state_of parts.old) number (piece device (state_of parts.old).store message)) result (state_of parts.old) (state_of parts.new) (K.written out.old) (K.written out.new) }
+    ensures quiet { Quiet (deliver (state_of parts.old) number (piece device (state_of parts.old).store message)) result (K.written out.old) (K.written out.new) (K.faults out.old) (K.faults out.new) }
     ensures unchanged { OnErr result (parts.new ≡ parts.old) }
     ensures cause { HasCause (K.faults out.old) (K.faults out.new) result }
     ensures grant { parts.new.grant ≡ parts.old.grant }
@@ -125,6 +126,8 @@ pub(crate) fn dispatch<K: Sink>(
     ensures kept { Kept parts.new }
     ensures turn { Takes (dispatch (state_of parts.old) number (sent_at (state_of parts.old).store (event_of parts.old.queue.given number)) (device_of (sent_at (state_of parts.old).store (event_of parts.old.queue.given number)).target)) result
         (state_of parts.old) (state_of parts.new) (K.written out.old) (K.written out.new) }
+    ensures quiet { Quiet (dispatch (state_of parts.old) number (sent_at (state_of parts.old).store (event_of parts.old.queue.given number)) (device_of (sent_at (state_of parts.old).store (event_of parts.old.queue.given number)).target)) result
+        (K.written out.old) (K.written out.new) (K.faults out.old) (K.faults out.new) }
     ensures unchanged { OnErr result (parts.new ≡ parts.old) }
     ensures cause { HasCause (K.faults out.old) (K.faults out.new) result }
     ensures grant { parts.new.grant ≡ parts.old.grant }

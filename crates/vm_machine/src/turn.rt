@@ -9,7 +9,7 @@ ghost use Rattle.vm_turn.specs.Turn.{step, turn};
 ghost use Rattle.vm_turn.specs.Run.{not_rest};
 ghost use Rattle.vm_machine.specs.Machine.{turns_by};
 ghost use Rattle.vm_machine.specs.Steps.{StepsTo, TakesOne, starts};
-ghost use Rattle.vm_machine.specs.Turns.{Takes};
+ghost use Rattle.vm_machine.specs.Turns.{Takes, Quiet};
 ghost use Rattle.vm_machine.specs.View.{state_of};
 ghost use Rattle.vm_machine.specs.Whole.{Kept, Waits, Whole};
 
@@ -109,6 +109,7 @@ pub(crate) fn turn<K: Sink>(
     requires whole { Whole parts.old }
     ensures whole { Whole parts.new }
     ensures turn { Takes (turn (state_of parts.old) pick) result (state_of parts.old) (state_of parts.new) (K.written out.old) (K.written out.new) }
+    ensures quiet { Quiet (turn (state_of parts.old) pick) result (K.written out.old) (K.written out.new) (K.faults out.old) (K.faults out.new) }
     ensures unchanged { turns_by parts.old.out_of result ≡ 0 → parts.new ≡ record parts.old { stuck = parts.new.stuck } }
     ensures cause { HasCause (K.faults out.old) (K.faults out.new) result }
     ensures grant { parts.new.grant ≡ parts.old.grant }

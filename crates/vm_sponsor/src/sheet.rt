@@ -230,6 +230,21 @@ impl Sheet {
         Some(shown_row(&row, &sponsor_cell(quads, row.sponsor)))
     }
 
+    /// What a sponsor holds of one kind; 0 where it has no row.
+    pub fn held(&self, quads: &Quads, who: Word, kind: Quota) -> u32
+        requires { Belongs quads.now.store self.now }
+        ensures { result ≡ held (sheet_of quads.now.store self.now.rows) who kind }
+    {
+        let mut rest: &[Row] = &self.rows;
+        'rows: while let [row, more @ ..] = rest {
+            if is_same(row.sponsor, who) {
+                return held_of(&sponsor_cell(quads, row.sponsor), kind);
+            }
+            rest = more;
+        }
+        0
+    }
+
     // Moves all that one sponsor holds of one kind to another.
     fn move_all(&mut self, quads: &mut Quads, from: Word, to: Word, kind: Quota)
         requires belongs { Belongs quads.old.store self.old }

@@ -1,5 +1,5 @@
 use Rattle.hum_emit.specs.Emitting.{emitted}
-use Rattle.hum_emit.proofs.RoutineTurns.{FixedMade, fixed_made}
+use Rattle.hum_emit.proofs.RoutineTurns.{fixed_made}
 use Rattle.hum_emit.proofs.runtime.fixed_code.Goals as goal
 
 pub returns : goal.returns

@@ -1,7 +1,7 @@
 use Rattle.std.proofs.Common.{◌∙◌, refl, ap, arith, map, string_bytes, Global}
 use Rattle.hum_outside.specs.Outside.{told}
 use Rattle.uasm_read.proofs.Fronts.{behind, front_item, no_item}
-use Rattle.humus.specs.Files.{gathered}
+use Rattle.humus.specs.LinkParts.{gathered}
 use Rattle.humus.proofs.Gathers.{gathers-none, gathers-step, gathers-last}
 use Rattle.humus.proofs.link.read_files.Goals as goal
 

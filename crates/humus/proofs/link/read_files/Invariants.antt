@@ -1,5 +1,5 @@
 use Rattle.std.proofs.Common.{◌≡◌, ◌≤◌, length, map, string_bytes}
-use Rattle.humus.specs.Files.{gathered}
+use Rattle.humus.specs.LinkParts.{gathered}
 use Rattle.humus.proofs.Gathers.{Gathers}
 use Rattle.humus.proofs.link.read_files.Given as goal
 

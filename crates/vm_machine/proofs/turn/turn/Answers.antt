@@ -1,6 +1,7 @@
 use Rattle.std.proofs.Common.{◌≡◌, ℕ, Option, sym, ◌∙◌, subst}
 use Rattle.std.specs.Prelude.{option_map}
 use Rattle.vm_turn.specs.State.{State}
+use Rattle.vm_turn.specs.declared.journal.Turn.{Turn as Answer}
 use Rattle.vm_turn.specs.Actors.{sent_at}
 use Rattle.vm_turn.specs.Turn.{dispatchable, device_of}
 use Rattle.vm_turn.specs.Sound.{Sound}
@@ -10,14 +11,20 @@ use Rattle.event_queue.specs.Waiting.{message_of}
 use Rattle.vm_machine.specs.View.{state_of}
 use Rattle.vm_machine.specs.Whole.{Waits}
 use Rattle.vm_machine.specs.Steps.{TakesOne}
-use Rattle.vm_machine.proofs.Turning.{takes-sound, takes-taken, takes-one-sound, takes-one-taken, one-turns, found-loose, dispatch-takes, grant-kept}
+use Rattle.vm_machine.proofs.Turning.{takes-sound, takes-taken, takes-one-sound, takes-one-taken, one-turns, found-loose, dispatch-turn, dispatch-takes, grant-kept}
 use Rattle.vm_machine.proofs.Unchanged.{still-dispatched, still-stepped}
+use Rattle.vm_machine.specs.Turns.{Quiet}
 use Rattle.vm_machine.proofs.turn.turn.Goals as goal
 
 pub returns-in-Some-next_ready-clause-turn : goal.returns-in-Some-next_ready-clause-turn
 returns-in-Some-next_ready-clause-turn g c =
     dispatch-takes c.args.parts.now c.next_ready.new.parts c.next_ready.new.parts.stuck (state_of c.dispatch.new.parts) c.args.pick c.in-Some-next_ready.number c.next_ready.result c.dispatch.result (g.K.Sink.written c.args.out.now) (g.K.Sink.written c.dispatch.new.out)
     c.next_ready.ensures.same c.in_default.is c.in-Some-next_ready.is c.next_ready.ensures.found c.dispatch.ensures.turn
+
+pub returns-in-Some-next_ready-clause-quiet : goal.returns-in-Some-next_ready-clause-quiet
+returns-in-Some-next_ready-clause-quiet g c =
+    let e = dispatch-turn c.args.parts.now c.next_ready.new.parts c.next_ready.new.parts.stuck c.args.pick c.in-Some-next_ready.number c.next_ready.result c.next_ready.ensures.same c.in_default.is c.in-Some-next_ready.is c.next_ready.ensures.found in
+    subst (λ (x : State × Answer). Quiet x c.dispatch.result (g.K.Sink.written c.args.out.now) (g.K.Sink.written c.dispatch.new.out) (g.K.Sink.faults c.args.out.now) (g.K.Sink.faults c.dispatch.new.out)) (sym e) c.dispatch.ensures.quiet
 
 pub returns-in-Some-next_ready-clause-whole : goal.returns-in-Some-next_ready-clause-whole
 returns-in-Some-next_ready-clause-whole g c =

@@ -6,4 +6,4 @@ use Rattle.hum_sim.proofs.compiling.Compiled.image.Goals as goal
 pub returns-clause-holds : goal.returns-clause-holds
 returns-clause-holds c =
     let k = c.self.inside in
-    subst (λ (x : Compiled). HoldsItsTree x.tree x.units x.image) c.self.view_is (holds k.tree k.program.units k.image c.self.invariant)
+    subst (λ (x : Compiled). HoldsItsTree x.tree x.units x.image) c.self.view_is (holds k.tree k.program.units k.image c.self.invariant.0)
