@@ -4,25 +4,10 @@
 //! `humus_main` does what the words say over any folder and sinks; `main` calls it with the real ones.
 #![tactic(auto)]
 
-mod answer;
-mod ending;
-mod exec;
-mod keys;
-mod link;
-mod load;
-mod reading;
-mod record;
-mod refusal;
-mod report;
-mod run;
-mod top;
-mod words;
-
+use hum_command::{Record, humus_main};
 use hum_outside::{HostFolder, HostSink};
-use record::Record;
 use std::process::ExitCode;
 use std::{env, io};
-use top::humus_main;
 
 // The status where the runtime does not hand the words as texts.
 const NO_WORDS: u8 = 8;
@@ -53,10 +38,3 @@ fn main(rt: HostRuntime) -> ExitCode {
         &mut last,
     ))
 }
-
-#[cfg(test)]
-mod drive_tests;
-#[cfg(test)]
-mod run_tests;
-#[cfg(test)]
-mod tests;

@@ -4,6 +4,8 @@
 #![tactic(auto)]
 
 #[cfg(test)]
+mod drives;
+#[cfg(test)]
 mod places;
 #[cfg(test)]
 mod programs;

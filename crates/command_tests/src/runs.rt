@@ -1,0 +1,387 @@
+// Texts that run, and those that are refused.
+use crate::calls::{Outcome, call_over, named, owned};
+use hum_command::{Record, humus_main};
+use hum_outside::{EndlessFolder, MemSink};
+use std::alloc::{AllocError, Global};
+use std::test::Fail;
+
+// Sends a number through two actors, which label it.
+const LABELS: &str = "LET label(tag, out) = \\m.[ SEND (tag, m) TO out ]
+CREATE a WITH label(#a, println)
+CREATE b WITH label(#b, a)
+SEND 7 TO b
+";
+
+// An actor that becomes another twice, and so fails and goes on as before.
+const TWICE: &str = "LET twice(out) = \\m.[
+  CASE m OF
+  #bad : [ BECOME quiet BECOME quiet ]
+  _ : [ SEND m TO out ]
+  END ]
+LET quiet = \\_.[ ]
+CREATE t WITH twice(println)
+SEND #bad TO t
+SEND 5 TO t
+";
+
+// Pairs that were made apart are the same; a function is the same as itself.
+const SAME: &str = "LET t(a, b) = CASE a OF $b : #yes _ : #no END
+SEND t((1, 2), (1, 2)) TO println
+SEND t(t, t) TO println
+";
+
+// Two answers are added by the actor that asked for them.
+const JOIN: &str = "LET answer(n) = \\cust.[ SEND n TO cust ]
+LET start(x, y, cust) = \\_.[
+  SEND SELF TO x
+  SEND SELF TO y
+  BECOME \\a.[ BECOME \\b.[ SEND add(a, b) TO cust ] ] ]
+CREATE x WITH answer(3)
+CREATE y WITH answer(4)
+CREATE j WITH start(x, y, println)
+SEND NIL TO j
+";
+
+const ENDLESS: &str = "LET f(x) = f(x)
+f(0)
+";
+
+const FACTORIAL: &str = "LET fact(n) = CASE n OF 0 : 1 _ : mul(n, fact(sub(n, 1))) END
+SEND fact(13) TO println
+";
+
+// A pair with 2 to the 20 leaves.
+const DOUBLES: &str = "LET d(n, x) = CASE n OF 0 : x _ : d(sub(n, 1), (x, x)) END
+SEND d(20, 1) TO println
+";
+
+// A text, the keys, what stands on out and on err, and the status.
+const ROWS: [(&str, &[&str], &str, &str, u8); 19] = [
+    (
+        "",
+        &[],
+        "",
+        "finished 1 committed 1 failed 0 spent 0 pending 0\n",
+        0,
+    ),
+    (
+        "SEND 42 TO println",
+        &[],
+        "42\n",
+        "finished 2 committed 2 failed 0 spent 0 pending 0\n",
+        0,
+    ),
+    (
+        "SEND add(1073741823, 1) TO println",
+        &[],
+        "-1073741824\n",
+        "finished 2 committed 2 failed 0 spent 0 pending 0\n",
+        0,
+    ),
+    (
+        "SEND mul(65536, 65536) TO println",
+        &[],
+        "0\n",
+        "finished 2 committed 2 failed 0 spent 0 pending 0\n",
+        0,
+    ),
+    (
+        "SEND -1073741824 TO println",
+        &[],
+        "-1073741824\n",
+        "finished 2 committed 2 failed 0 spent 0 pending 0\n",
+        0,
+    ),
+    (
+        FACTORIAL,
+        &[],
+        "-215430144\n",
+        "finished 2 committed 2 failed 0 spent 0 pending 0\n",
+        0,
+    ),
+    (
+        LABELS,
+        &[],
+        "(#a, #b, 7)\n",
+        "finished 4 committed 4 failed 0 spent 0 pending 0\n",
+        0,
+    ),
+    (
+        "SEND 1 TO println\nTHROW #no",
+        &[],
+        "",
+        "event 0 failed: thrown\nfinished 1 committed 0 failed 1 spent 0 pending 0\n",
+        9,
+    ),
+    (
+        TWICE,
+        &[],
+        "5\n",
+        "event 1 failed: second become\nfinished 4 committed 3 failed 1 spent 0 pending 0\n",
+        9,
+    ),
+    (
+        "CASE 3 OF 1 : [ ] END",
+        &[],
+        "",
+        "event 0 failed: no match\nfinished 1 committed 0 failed 1 spent 0 pending 0\n",
+        9,
+    ),
+    (
+        SAME,
+        &[],
+        "#yes\n#no\n",
+        "finished 3 committed 3 failed 0 spent 0 pending 0\n",
+        0,
+    ),
+    (
+        ENDLESS,
+        &["cycles=10000"],
+        "",
+        "spent cycles\nfinished 1 committed 0 failed 0 spent 1 pending 0\n",
+        5,
+    ),
+    (
+        LABELS,
+        &["bound=2"],
+        "",
+        "finished 2 committed 2 failed 0 spent 0 pending 1\n",
+        6,
+    ),
+    (
+        LABELS,
+        &["bound=4"],
+        "(#a, #b, 7)\n",
+        "finished 4 committed 4 failed 0 spent 0 pending 0\n",
+        0,
+    ),
+    (
+        JOIN,
+        &["lanes=1"],
+        "7\n",
+        "finished 7 committed 7 failed 0 spent 0 pending 0\n",
+        0,
+    ),
+    (
+        JOIN,
+        &["lanes=8", "seed=3"],
+        "7\n",
+        "finished 7 committed 7 failed 0 spent 0 pending 0\n",
+        0,
+    ),
+    (
+        DOUBLES,
+        &[],
+        "",
+        "event 1 failed: device refused\nfinished 2 committed 1 failed 1 spent 0 pending 0\n",
+        9,
+    ),
+    (
+        "SEND \"hi\" TO say SEND \"\" TO say",
+        &[],
+        "hi\n\n",
+        "finished 3 committed 3 failed 0 spent 0 pending 0\n",
+        0,
+    ),
+    (
+        "SEND 5 TO say",
+        &[],
+        "",
+        "event 1 failed: device refused\nfinished 2 committed 1 failed 1 spent 0 pending 0\n",
+        9,
+    ),
+];
+
+// The words `run f.hum` with these keys, over that text. The calls of the folder, of out and of err that are listed fail.
+fn run_over(
+    alloc: Global,
+    keys: &[&str],
+    text: &[u8],
+    fails: &[&[u64]; 3],
+) -> Result<Outcome, AllocError> {
+    let mut words = vec![in alloc; "run", "f.hum"]?;
+    words.extend_from_slice(keys)?;
+    let file = named(alloc, "f.hum", text)?;
+    call_over(alloc, &words, vec![in alloc; file]?, fails)
+}
+
+#[test]
+fn texts_that_run(rt: HostRuntime) -> Result<(), Fail> {
+    let alloc = rt.alloc();
+    for (text, keys, out, err, status) in ROWS {
+        let got = run_over(alloc, keys, text.as_bytes(), &[&[], &[], &[]])?;
+        assert_eq!(rt; got.err.bytes(), err.as_bytes(), "{text}");
+        assert_eq!(rt; got.out.bytes(), out.as_bytes(), "{text}");
+        assert_eq!(rt; got.status, status, "{text}");
+        assert!(rt; got.last.run().is_some() && got.last.machine().is_none());
+    }
+    Ok(())
+}
+
+// A text, and what stands on err where it is refused.
+const REFUSED: [(&str, &str); 11] = [
+    (
+        "SEND 1073741824 TO println",
+        "f.hum:1:6: number out of range\n",
+    ),
+    ("SEND 1 TO", "f.hum:1:10: not a program\n"),
+    ("SEND 1 TO\n", "f.hum:1:11: not a program\n"),
+    ("AFTER", "f.hum:1:1: not in this profile\n"),
+    ("SEND x TO println", "f.hum:1:6: unbound name x\n"),
+    ("LET a = 1 LET a = 2", "f.hum:1:15: name bound twice a\n"),
+    (
+        "SEND 1 TO println\n\n  SEND why TO println",
+        "f.hum:3:8: unbound name why\n",
+    ),
+    ("SEND \x01 TO println", "f.hum:1:6: bad byte\n"),
+    ("SEND \"hi", "f.hum:1:6: bad text\n"),
+    ("SEND 1\n TO ) 6", "f.hum:2:5: not a program\n"),
+    ("SEND 1 TO println )", "f.hum:1:19: not a program\n"),
+];
+
+#[test]
+fn texts_that_are_refused(rt: HostRuntime) -> Result<(), Fail> {
+    let alloc = rt.alloc();
+    for (text, err) in REFUSED {
+        let got = run_over(alloc, &[], text.as_bytes(), &[&[], &[], &[]])?;
+        assert_eq!(rt; got.err.bytes(), err.as_bytes(), "{text}");
+        assert_eq!(rt; got.status, 3, "{text}");
+        assert!(rt; got.out.bytes().is_empty() && got.last.run().is_none());
+    }
+    Ok(())
+}
+
+// How often a piece is repeated, and then blanks up to the length; the status, and what stands on err.
+const LIMITS: [(&str, usize, usize, u8, &str); 5] = [
+    (
+        "",
+        0,
+        1_048_576,
+        0,
+        "finished 1 committed 1 failed 0 spent 0 pending 0\n",
+    ),
+    ("", 0, 1_048_577, 3, "f.hum: text too long\n"),
+    ("SEND x ", 1, 1_048_577, 3, "f.hum: text too long\n"),
+    ("1 ", 16_001, 0, 3, "f.hum:1:32001: program too large\n"),
+    ("x", 129, 0, 3, "f.hum:1:1: name too long\n"),
+];
+
+#[test]
+fn texts_at_their_limits(rt: HostRuntime) -> Result<(), Fail> {
+    let alloc = rt.alloc();
+    for (piece, times, length, status, err) in LIMITS {
+        let mut text = Vec::new(alloc);
+        for _ in 0..times {
+            text.extend_from_slice(piece.as_bytes())?;
+        }
+        let blanks = vec![in alloc; b' '; length.saturating_sub(text.len())]?;
+        text.extend_from_slice(&blanks)?;
+        let got = run_over(alloc, &[], &text, &[&[], &[], &[]])?;
+        assert_eq!(rt; got.err.bytes(), err.as_bytes());
+        assert_eq!(rt; got.status, status);
+    }
+    Ok(())
+}
+
+// The built-ins and the devices are 14 names, and at most 4,000 may be in scope.
+#[test]
+fn a_text_with_too_many_names(rt: HostRuntime) -> Result<(), Fail> {
+    let alloc = rt.alloc();
+    let mut text = String::new(alloc);
+    for n in 1..3988 {
+        let line = format!(in alloc; "LET n{n} = {n}\n")?;
+        text.push_str(&line)?;
+    }
+    let got = run_over(alloc, &[], text.as_bytes(), &[&[], &[], &[]])?;
+    assert_eq!(rt;
+        got.err.bytes(),
+        b"f.hum:3987:5: too many names\n".as_slice()
+    );
+    assert_eq!(rt; got.status, 3);
+    Ok(())
+}
+
+#[test]
+fn a_text_that_is_not_there(rt: HostRuntime) -> Result<(), Fail> {
+    let alloc = rt.alloc();
+    let got = call_over(alloc, &["run", "no.hum"], Vec::new(alloc), &[&[], &[], &[]])?;
+    assert_eq!(rt; got.err.bytes(), b"cannot read no.hum\n".as_slice());
+    assert_eq!(rt; got.status, 2);
+    Ok(())
+}
+
+#[test]
+fn a_text_that_never_ends(rt: HostRuntime) -> Result<(), Fail> {
+    let alloc = rt.alloc();
+    let words = owned(alloc, &["run", "-"])?;
+    let mut out = MemSink::with_room(alloc, 0, 1, Vec::new(alloc))?;
+    let mut err = MemSink::with_room(alloc, 100, 1, Vec::new(alloc))?;
+    let mut last = Record::empty();
+    let mut files = EndlessFolder::new();
+    assert_eq!(rt;
+        humus_main(alloc, &words, &mut files, &mut out, &mut err, &mut last),
+        3
+    );
+    assert_eq!(rt; err.bytes(), b"-: text too long\n".as_slice());
+    Ok(())
+}
+
+// A text; the calls of the folder, of out and of err that fail; what then stands on out and on err, and the status.
+const FAULTS: [(&str, &[&[u64]; 3], &str, &str, u8); 9] = [
+    ("", &[&[0], &[], &[]], "", "cannot read f.hum\n", 2),
+    ("", &[&[0], &[], &[3]], "", "can", 2),
+    ("SEND", &[&[], &[], &[3]], "", "f.h", 3),
+    (LABELS, &[&[], &[2], &[]], "(#", "", 4),
+    (LABELS, &[&[], &[], &[9]], "(#a, #b, 7)\n", "finished ", 4),
+    (
+        "SEND 5 TO say SEND 6 TO println",
+        &[&[], &[], &[6]],
+        "",
+        "event ",
+        4,
+    ),
+    (
+        "SEND 5 TO say SEND 6 TO println",
+        &[&[], &[1], &[]],
+        "6",
+        "event 1 failed: device refused\n",
+        4,
+    ),
+    (
+        "SEND 5 TO say SEND 6 TO println",
+        &[&[], &[], &[31]],
+        "6\n",
+        "event 1 failed: device refused\n",
+        4,
+    ),
+    (ENDLESS, &[&[], &[], &[6]], "", "spent ", 4),
+];
+
+#[test]
+fn faults_while_a_text_runs(rt: HostRuntime) -> Result<(), Fail> {
+    let alloc = rt.alloc();
+    for (text, fails, out, err, status) in FAULTS {
+        let got = run_over(alloc, &["cycles=10000"], text.as_bytes(), fails)?;
+        assert_eq!(rt; got.out.bytes(), out.as_bytes(), "{text}");
+        assert_eq!(rt; got.err.bytes(), err.as_bytes(), "{text}");
+        assert_eq!(rt; got.status, status, "{text}");
+        assert!(rt; got.last.run().is_some() == (status == 4));
+    }
+    Ok(())
+}
+
+#[test]
+fn the_run_that_is_left(rt: HostRuntime) -> Result<(), Fail> {
+    let alloc = rt.alloc();
+    let got = run_over(alloc, &[], JOIN.as_bytes(), &[&[], &[], &[]])?;
+    let run = got.last.run().ok_or("a run")?;
+    for (number, entry) in run.sim().machine().journal().iter().enumerate() {
+        assert_eq!(rt; entry.message as usize, number);
+    }
+    let got = run_over(alloc, &[], LABELS.as_bytes(), &[&[], &[2], &[]])?;
+    let machine = got.last.run().ok_or("a run")?.sim().machine();
+    assert_eq!(rt; machine.journal().len(), 3);
+    assert_eq!(rt; machine.pending(), 1);
+    assert!(rt; machine.queue().event(3).is_some());
+    Ok(())
+}

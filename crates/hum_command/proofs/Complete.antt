@@ -1,0 +1,137 @@
+-- Where nothing fails, `link` and `exec` are done or refused.
+use Rattle.std.proofs.Common.{Bool, true, false, ◌≡◌, ◌⊎◌, ◌∙◌, ℕ, List, [], ◌∷◌, Option, Some, None, Ok, refl, sym, ap, subst, inl, inr, ⊎_elim, arith}
+use Rattle.hum_outside.specs.Outside.{told}
+use Rattle.quad_memory.specs.Image.{RomImage}
+use Rattle.uasm_image.specs.Refused.{IsRefusedAt}
+use Rattle.uasm_image.proofs.Once.{faultless}
+use Rattle.uasm_read.specs.Modules.{ModuleParts}
+use Rattle.uasm_read.specs.Links.{link_fault}
+use Rattle.hum_command.specs.Writes.{Writes, Wrote, WroteFront, Faultless}
+use Rattle.hum_command.specs.Texts.{AreTold}
+use Rattle.hum_command.specs.Link.{modules_of, LinkTo, RefusedBy}
+use Rattle.hum_command.specs.Images.{Holds, HoldsNone, Loads, Unloaded, LinksAlone, UnlinkedAlone, is_image_file}
+use Rattle.hum_run.specs.Drive.{written_by}
+use Rattle.hum_command.specs.Call.{Call, NotRead, Reads}
+use Rattle.hum_command.specs.MachineAnswers.{EndsRun}
+use Rattle.hum_command.specs.LinkAnswers.{LinksFiles, RefusesFiles, LinkAnswers, LinkCompletes}
+use Rattle.hum_command.specs.ExecAnswers.{Executes, ExecAnswers, ExecCompletes}
+use Rattle.hum_command.specs.Words.{Request, Run, Link, Exec}
+use Rattle.hum_command.specs.Answers.{AnsweredTo, CompletesFor, status_of}
+use Rattle.hum_command.specs.declared.keys.Keys.{Keys}
+use Rattle.hum_command.specs.declared.refusal.Refusal.TheVariants.{FileTooLong, Image, Module}
+use Rattle.hum_command.specs.declared.refusal.Refusal.{Refusal}
+use Rattle.hum_command.specs.declared.answer.Answer.{Answer}
+use Rattle.hum_command.specs.declared.answer.Answer.TheVariants.{Done, Unread, Fault, Spent, Bound, NoMemory, EventFailed, Refused}
+use Rattle.hum_command.proofs.Texts.{told_there, same_texts}
+use Rattle.hum_command.proofs.RunComplete.{run_completes, reached, file_there, told_of, unbroken}
+
+-- ---- `link`
+
+linked_there : (names texts : List (List ℕ)) (modules : List ModuleParts) (why : Refusal) (name : List ℕ) → modules_of names texts ≡ Ok modules
+    → link_fault modules ≡ None → RefusedBy names texts why name → ⊥
+linked_there names texts modules why name read sound refused = ⊎_elim
+    (λ bad. let other = bad.2 in cc)
+    (λ fails.
+    let other = fails.read in
+    let same : fails.modules ≡ modules = cc in
+    let fault : link_fault modules ≡ Some fails.fault = ap link_fault (sym same) ∙ fails.fails in cc) refused
+
+module _ (names texts : List (List ℕ)) (c : Call) (are : AreTold c.files names texts) where
+  -- each file is there
+  read_there : (name : List ℕ) → NotRead names c name → Reads c → ⊥
+  read_there name not_read no_fault = ⊎_elim no_fault
+      (λ none. told_there c.files not_read.0.before not_read.0.after texts name (subst (λ (ns : List (List ℕ)). AreTold c.files ns texts) not_read.0.split are) none) not_read.1
+
+  refused_with : (why : Refusal) (name : List ℕ) → RefusesFiles names why c name → RefusedBy names texts why name
+  refused_with why name refuses = subst (λ (ts : List (List ℕ)). RefusedBy names ts why name) (same_texts c.files names texts refuses.texts are refuses.have) refuses.refused
+
+  module _ (modules : List ModuleParts) (read : modules_of names texts ≡ Ok modules) (sound : link_fault modules ≡ None) (no_fault : Reads c) (no_out : Faultless c.out) where
+    link_done : (answer : Answer) → LinkAnswers names answer c → (status_of answer ≡ 0) ⊎ (status_of answer ≡ 7)
+    link_done Done a = inl refl
+    link_done NoMemory a = inr refl
+    link_done Unread a = absurd (read_there a.0 a.1 no_fault)
+    link_done (Refused why) a = absurd (linked_there names texts modules why a.0 read sound (refused_with why a.0 a.1))
+    link_done Fault a = absurd (no_out a.out.1)
+    link_done answer a = absurd a
+
+  module _ (why : Refusal) (name : List ℕ) (refused : RefusedBy names texts why name) (no_fault : Reads c) where
+    links_not : (image : RomImage) → LinkTo names texts image → ⊥
+    links_not image links = linked_there names texts links.modules why name links.read links.linked.sound refused
+
+    links_none : (Writing : Writes → List ℕ → Type 0) → LinksFiles names Writing c → ⊥
+    links_none Writing files = links_not files.image (subst (λ (ts : List (List ℕ)). LinkTo names ts files.image) (same_texts c.files names texts files.texts are files.have) files.links)
+
+    link_refused : (answer : Answer) → LinkAnswers names answer c → (status_of answer ≡ 10) ⊎ (status_of answer ≡ 7)
+    link_refused (Refused other) a = inl refl
+    link_refused NoMemory a = inr refl
+    link_refused Unread a = absurd (read_there a.0 a.1 no_fault)
+    link_refused Done a = absurd (links_none Wrote a)
+    link_refused Fault a = absurd (links_none WroteFront a)
+    link_refused answer a = absurd a
+
+link_completes : (names : List (List ℕ)) (answer : Answer) (c : Call) → LinkAnswers names answer c → LinkCompletes names (status_of answer) c
+link_completes names answer c a = record {
+  done = λ texts modules are read sound no_fault no_out. link_done names texts c are modules read sound no_fault no_out answer a;
+  refused = λ texts why name are refused no_fault. link_refused names texts c are why name refused no_fault answer a;
+}
+
+-- ---- `exec`
+
+unlinked : (bytes : List ℕ) (image : RomImage) (why : Refusal) → LinksAlone bytes image → UnlinkedAlone bytes why → ⊥
+unlinked bytes image why links un =
+    let one = links.assembles in
+    let other = un.assembles in
+    let same : un.parts ≡ links.parts = cc in
+    let fault : link_fault (links.parts ∷ []) ≡ Some un.fault = ap (λ (m : ModuleParts). link_fault (m ∷ [])) (sym same) ∙ un.fails in
+    let sound = links.linked.sound in cc
+
+holds_one : (image_file : Bool) (why : Refusal) (bytes : List ℕ) (image : RomImage) → Holds image_file bytes image → HoldsNone image_file why bytes → ⊥
+holds_one true (Image why) bytes image holds none =
+    faultless image why.at why.cause holds.0 (subst (λ (bs : List ℕ). IsRefusedAt bs why.at why.cause) holds.1 none)
+holds_one true why bytes image holds none = absurd none
+holds_one false (Module why) bytes image holds none = let one = holds.assembles in cc
+holds_one false why bytes image holds none = unlinked bytes image why holds none
+
+loaded : (why : Refusal) (bytes : List ℕ) (image : RomImage) → Loads bytes image → Unloaded why bytes → ⊥
+loaded FileTooLong bytes image loads un = omega (arith, loads.short, un)
+loaded why bytes image loads un = holds_one (is_image_file bytes) why bytes image loads.holds un.1
+
+module _ (name bytes : List ℕ) (keys : Keys) (c : Call) (is : told c.files name ≡ Some (Some bytes)) (no_fault : Reads c) where
+  module _ (image : RomImage) (loads : Loads bytes image) (no_out : Faultless c.out) (no_err : Faultless c.err) where
+    exec_runs : (answer : Answer) → ExecAnswers name keys answer c → EndsRun keys.bound (status_of answer)
+    exec_runs Done a = inl refl
+    exec_runs (Spent kind) a = inr (inl refl)
+    exec_runs NoMemory a = inr (inr (inl refl))
+    exec_runs EventFailed a = inr (inr (inr (inl refl)))
+    exec_runs Bound a = let some = reached keys.bound a.machine.state a.ends.stops.1 in inr (inr (inr (inr (refl, some.0, some.1))))
+    exec_runs Unread a = absurd (file_there name bytes c is no_fault a.0)
+    exec_runs (Refused why) a = absurd (loaded why bytes image loads (told_of name bytes c is (Unloaded why) a.0.bytes a.0.text a.0.refused))
+    exec_runs Fault a = absurd (unbroken keys.bound a.machine (written_by a.machine) c no_out no_err a.ends)
+    exec_runs answer a = absurd a.ends
+
+  module _ (why : Refusal) (un : Unloaded why bytes) where
+    executes_none : (answer : Answer) → Executes name keys answer c → ⊥
+    executes_none answer e = loaded why bytes e.image (told_of name bytes c is (λ bs. Loads bs e.image) e.bytes e.text e.loads) un
+
+    exec_refused : (answer : Answer) → ExecAnswers name keys answer c → (status_of answer ≡ 10) ⊎ (status_of answer ≡ 7)
+    exec_refused (Refused other) a = inl refl
+    exec_refused NoMemory a = inr refl
+    exec_refused Unread a = absurd (file_there name bytes c is no_fault a.0)
+    exec_refused answer a = absurd (executes_none answer a)
+
+exec_completes : (name : List ℕ) (keys : Keys) (answer : Answer) (c : Call) → ExecAnswers name keys answer c → ExecCompletes name keys (status_of answer) c
+exec_completes name keys answer c a = record {
+  runs = λ bytes image is loads no_fault no_out no_err. exec_runs name bytes keys c is no_fault image loads no_out no_err answer a;
+  refused = λ bytes why is un no_fault. exec_refused name bytes keys c is no_fault why un answer a;
+}
+
+-- ---- each command
+
+completes_for : (request : Option Request) (answer : Answer) (c : Call) → AnsweredTo request answer c → CompletesFor request (status_of answer) c
+completes_for None answer c a = ap status_of a.0
+completes_for (Some (Run name keys)) answer c a = run_completes name keys answer c a
+completes_for (Some (Link names)) answer c a = link_completes names answer c a
+completes_for (Some (Exec name keys)) answer c a = exec_completes name keys answer c a
+
+pub completes : (request : Option Request) (answer : Answer) (status : ℕ) (c : Call) → status ≡ status_of answer → AnsweredTo request answer c → CompletesFor request status c
+completes request answer status c is a = subst (λ (n : ℕ). CompletesFor request n c) (sym is) (completes_for request answer c a)

@@ -1,0 +1,52 @@
+-- The forms of the words.
+use Rattle.std.specs.Prelude.{ℕ, ◌&&◌, ◌==◌, nat_le, not, Bool, List, [], ◌∷◌, length, map, codes, Option, None, Some, if◌then◌else◌, option_map, string_bytes}
+use Rattle.std.specs.List.{list_all}
+use Rattle.std.specs.Str.{bytes_eq}
+use Rattle.hum_command.specs.Keys.{keys_of, run_keys, WithinLimits}
+use Rattle.hum_command.specs.declared.keys.Keys.{Keys}
+use Rattle.hum_command.specs.declared.words.Command.{Command}
+use Rattle.hum_command.specs.declared.words.Command.TheVariants as command
+
+-- what the words ask for: a text is run; modules are linked; an image or a module is run
+pub data Request : Type 0 where
+  Run : List ℕ → Keys → Request
+  Link : List (List ℕ) → Request
+  Exec : List ℕ → Keys → Request
+
+-- a FILE is not empty
+abbrev pub is_file : List ℕ → Bool
+is_file name = not (length name == 0)
+
+-- `link FILE FILE ..`, of 1 to 64 files
+abbrev pub link_of : List (List ℕ) → Option Request
+link_of names = if nat_le 1 (length names) && nat_le (length names) 64 && list_all is_file names then Some (Link names) else None
+
+-- `run FILE KEYS`
+abbrev pub run_of : List (List ℕ) → Option Request
+run_of [] = None
+run_of (name ∷ keys) = if is_file name then option_map (Run name) (keys_of run_keys keys) else None
+
+-- `exec FILE KEYS`
+abbrev pub exec_of : List (List ℕ) → Option Request
+exec_of [] = None
+exec_of (name ∷ keys) = if is_file name then option_map (Exec name) (keys_of run_keys keys) else None
+
+-- what the words ask for; other words have no form
+abbrev pub request_of : List (List ℕ) → Option Request
+request_of [] = None
+request_of (word ∷ words) =
+    if bytes_eq word (codes "run") then run_of words else
+    if bytes_eq word (codes "link") then link_of words else
+    if bytes_eq word (codes "exec") then exec_of words else None
+
+-- the keys are within their limits
+abbrev pub KeysFit : Request → Type 0
+KeysFit (Run name keys) = WithinLimits keys
+KeysFit (Link names) = Unit {0}
+KeysFit (Exec name keys) = WithinLimits keys
+
+-- the request of a command
+abbrev pub request : Command → Request
+request (command.Run name keys) = Run name.now keys
+request (command.Link names) = Link (map string_bytes names.now)
+request (command.Exec name keys) = Exec name.now keys

@@ -1,9 +1,0 @@
-use Rattle.std.proofs.Common.{◌≡◌, ◌≤◌, drop}
-use Rattle.humus.specs.Keys as spec
-use Rattle.humus.proofs.keys.number_from.Given as goal
-
-abbrev pub invariant-loop-digit : goal.invariant-loop-digit
-invariant-loop-digit l = record {
-  same : spec.number_from l.number (drop l.digit-index l.digits) ≡ spec.number_from 0 l.digits;
-  small : l.number ≤ 4294967295;
-}
