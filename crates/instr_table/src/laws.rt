@@ -11,9 +11,9 @@ pub fn charges_as_listed()
     ensures { ChargesAsListed }
 {}
 
-/// Where `op_charge` says nothing, the state says how many quads a row charges, and no event. `dict set` costs i + 2 where the first entry with
-/// the key stands at place i, counted from 0, and 2 where there is none; `dict del` costs i + 1, or 1. `deque pop` and `deque pull` cost 3, and
-/// one more for each item that is turned round. `sponsor new` costs 3, or 1 where there are 65,536 sponsors.
+/// Where `op_charge` says nothing, the state says how many quads a row charges, and no event. `dict set` costs i + 2 where the first entry
+/// with the key stands at place i, counted from 0, and 2 where there is none; `dict del` costs i + 1, or 1. `deque pop` and `deque pull`
+/// cost 3, and one more for each item that is turned round. `sponsor new` costs 3, or 1 where there are 65,536 sponsors.
 pub fn charges_by_state()
     ensures { ChargesByState }
 {}
