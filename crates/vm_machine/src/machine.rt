@@ -159,8 +159,8 @@ impl Machine {
     }
 
     /// How many turns were completed. The state is the written run's after so many, over the picks of the seed, and there are never more
-    /// than the cycles and twice the messages that were granted, message 0 among these. The image, the grant and the lanes of that run keep
-    /// their rules, so the laws of runs hold of it.
+    /// than the cycles and twice the messages that were granted, message 0 among these. The image of that run keeps its rules, as the laws on
+    /// authority ask, its grant is within the limits, and its lanes are 1 to 64.
     pub fn turns(&self) -> u64
         ensures value { result ≡ self.now.turns }
         ensures image { IsTrue (is_image self.now.image.boot self.now.image.cells) }
