@@ -46,7 +46,8 @@ end commit\nc35:\nmsg 0\nstate 1\nactor send\nend commit\nc39:\ndebug\nref c39\n
 
 const PAIRS: &[u8] =
     b"; Sends 42, and then a list, to println.\n.export boot\nboot:\n    push 42\n    state 1 ; println\n    actor send\n\
-    push answers\n    state 1\n    actor send\n    ref done\nanswers:\n    pair_t 1 more\nmore:\n    pair_t 2 #nil\ndone:\n    end commit\n";
+    push answers\n    state 1\n    actor send\n    ref done\n\
+answers:\n    pair_t 1 more\nmore:\n    pair_t 2 #nil\ndone:\n    end commit\n";
 
 const PAIRS_LISTED: &[u8] =
     b".export boot\nboot:\npush 42\nstate 1\nactor send\npush c22\nstate 1\nactor send\nref c24\n\

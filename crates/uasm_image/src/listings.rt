@@ -221,7 +221,7 @@ pub fn listing(alloc: Global, image: &Image) -> Result<Module, NoMemory>
     ensures links { IfOk result (λ m. Linked (m ∷ []) image.now.boot image.now.cells) }
     ensures image { IfOk result (λ _. IsImage image.now) }
 {
-    // What makes it a module: where a cell is followed, its line may be.
+    // The law that makes the parts a module.
     listings_are_modules();
     let cells = image.cells();
     let named = named_cells(alloc, cells)?;
