@@ -6,7 +6,7 @@ use Rattle.cap_words.specs.Store.{used}
 use Rattle.cap_words.specs.Seen.{Seen, Slot, OpenSlot, seen, cell_seen}
 use Rattle.quad_memory.specs.Memory.{Memory}
 use Rattle.instr_table.specs.Lists.{next_quad, pair_in, pair_quad, items_to, items, longest}
-use Rattle.instr_table.specs.Deque.{Taking, turned, taken_from, taking}
+use Rattle.instr_table.specs.Deque.{Taking, turned, turned_on, taken_from, taking}
 use Rattle.instr_table.proofs.Charges.{length-turned}
 use Rattle.vm_dict.specs.Made.{Takes, HasRoom}
 use Rattle.vm_dict.specs.Calls.{taking_in}
