@@ -65,3 +65,16 @@ pub fn exec_over(
     let file = named(alloc, "m.asm", text)?;
     call_over(alloc, &words, vec![in alloc; file]?, fails)
 }
+
+// The words `run f.hum` with these keys, over that text. The calls of the folder, of out and of err that are listed fail.
+pub fn run_over(
+    alloc: Global,
+    keys: &[&str],
+    text: &[u8],
+    fails: &[&[u64]; 3],
+) -> Result<Outcome, AllocError> {
+    let mut words = vec![in alloc; "run", "f.hum"]?;
+    words.extend_from_slice(keys)?;
+    let file = named(alloc, "f.hum", text)?;
+    call_over(alloc, &words, vec![in alloc; file]?, fails)
+}

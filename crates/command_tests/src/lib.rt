@@ -10,6 +10,8 @@ mod links;
 #[cfg(test)]
 mod machines;
 #[cfg(test)]
+mod outside;
+#[cfg(test)]
 mod runs;
 #[cfg(test)]
 mod words;

@@ -2,7 +2,7 @@
 use crate::calls::{BOOT, call_over, exec_over};
 use std::test::Fail;
 
-const USAGE: &str = "usage: humus COMMAND FILE.. [KEY=N..]\n";
+pub const USAGE: &str = "usage: humus COMMAND FILE.. [KEY=N..]\n";
 
 // Words without a form.
 const FORMLESS: [&[&str]; 14] = [

@@ -1,29 +1,35 @@
 -- Declined commands have their answers' causes.
-use Rattle.std.proofs.Common.{ℕ, List}
+use Rattle.std.proofs.Common.{ℕ, List, Option, Some, refl, tt}
 use Rattle.hum_outside.specs.Outside.{told}
 use Rattle.hum_command.specs.LinkParts.{LinkFails}
 use Rattle.hum_command.specs.Images.{LoadFails}
 use Rattle.hum_command.specs.Call.{Call, Declines}
-use Rattle.hum_command.specs.TextRefusals.{StartFails}
-use Rattle.hum_command.specs.RunAnswers.{RunsFile, RunAnswers}
+use Rattle.hum_command.specs.TextRefusals.{TextFails, StartFails}
+use Rattle.hum_command.specs.RunAnswers.{RunsFile, FileAnswers}
 use Rattle.hum_command.specs.LinkAnswers.{LinkAnswers}
 use Rattle.hum_command.specs.ExecAnswers.{Executes, ExecAnswers}
 use Rattle.hum_command.specs.declared.keys.Keys.{Keys}
 use Rattle.hum_command.specs.declared.answer.Answer.{Answer}
 use Rattle.hum_command.specs.declared.answer.Answer.TheVariants.{Unread, NoMemory, TextRefused, Refused}
 
-pub declined_run : (answer : Answer) (c : Call) (name : List ℕ) (keys : Keys) → StartFails c.faults_old c.faults_new (told c.files name) answer
-    → Declines answer c name → RunAnswers name keys answer c
-declined_run Unread c name keys fails d = (fails, d)
-declined_run (TextRefused why) c name keys fails d = (record { text = fails.0; is_text = fails.1; refused = fails.2 }, d)
-declined_run NoMemory c name keys fails d = record { line = d.line; out = d.out; last = d.last }
-declined_run answer c name keys fails d = absurd fails
+module _ (file : Option (Option (List ℕ))) (name : List ℕ) (keys : Keys) (c : Call) where
+  pub declined_run : (answer : Answer) → StartFails c.faults_old c.faults_new file answer → Declines answer c name → FileAnswers file name keys answer c
+  declined_run Unread fails d = (fails, d)
+  declined_run (TextRefused why) fails d = (record { text = fails.0; is_text = fails.1; refused = fails.2 }, d)
+  declined_run NoMemory fails d = record { line = d.line; out = d.out; last = d.last }
+  declined_run answer fails d = absurd fails
 
-pub ran : (answer : Answer) (c : Call) (name : List ℕ) (keys : Keys) → RunsFile name keys answer c → RunAnswers name keys answer c
-ran Unread c name keys r = absurd r.ends.ends
-ran (TextRefused why) c name keys r = absurd r.ends.ends
-ran NoMemory c name keys r = absurd r.ends.ends
-ran answer c name keys r = r
+  pub ran : (answer : Answer) → RunsFile file keys answer c → FileAnswers file name keys answer c
+  ran Unread r = absurd r.ends.ends
+  ran (TextRefused why) r = absurd r.ends.ends
+  ran NoMemory r = absurd r.ends.ends
+  ran answer r = r
+
+-- why the text of a file that is told is refused
+pub told_fails : (faults : ℕ) (text : List ℕ) (answer : Answer) → TextFails text answer → StartFails faults faults (Some (Some text)) answer
+told_fails faults text NoMemory fails = tt
+told_fails faults text (TextRefused why) fails = (text, refl, fails)
+told_fails faults text answer fails = absurd fails
 
 pub declined_link : (answer : Answer) (c : Call) (names : List (List ℕ)) (name : List ℕ) → LinkFails c.files c.faults_old c.faults_new names answer name
     → Declines answer c name → LinkAnswers names answer c

@@ -1,5 +1,5 @@
 -- Where nothing fails, `link` and `exec` are done or refused.
-use Rattle.std.proofs.Common.{Bool, true, false, ◌≡◌, ◌⊎◌, ◌∙◌, ℕ, List, [], ◌∷◌, Option, Some, None, Ok, refl, sym, ap, subst, inl, inr, ⊎_elim, arith}
+use Rattle.std.proofs.Common.{Bool, true, false, ◌≡◌, ◌⊎◌, ◌∙◌, ℕ, List, [], ◌∷◌, codes, Option, Some, None, Ok, refl, sym, ap, subst, inl, inr, ⊎_elim, arith}
 use Rattle.hum_outside.specs.Outside.{told}
 use Rattle.quad_memory.specs.Image.{RomImage}
 use Rattle.uasm_image.specs.Refused.{IsRefusedAt}
@@ -15,7 +15,8 @@ use Rattle.hum_command.specs.Call.{Call, NotRead, Reads}
 use Rattle.hum_command.specs.MachineAnswers.{EndsRun}
 use Rattle.hum_command.specs.LinkAnswers.{LinksFiles, RefusesFiles, LinkAnswers, LinkCompletes}
 use Rattle.hum_command.specs.ExecAnswers.{Executes, ExecAnswers, ExecCompletes}
-use Rattle.hum_command.specs.Words.{Request, Run, Link, Exec}
+use Rattle.hum_command.specs.Words.{Request, Run, Link, Exec, Chain}
+use Rattle.hum_command.specs.RunAnswers.{chain_file}
 use Rattle.hum_command.specs.Answers.{AnsweredTo, CompletesFor, status_of}
 use Rattle.hum_command.specs.declared.keys.Keys.{Keys}
 use Rattle.hum_command.specs.declared.refusal.Refusal.TheVariants.{FileTooLong, Image, Module}
@@ -104,19 +105,19 @@ module _ (name bytes : List ℕ) (keys : Keys) (c : Call) (is : told c.files nam
     exec_runs NoMemory a = inr (inr (inl refl))
     exec_runs EventFailed a = inr (inr (inr (inl refl)))
     exec_runs Bound a = let some = reached keys.bound a.machine.state a.ends.stops.1 in inr (inr (inr (inr (refl, some.0, some.1))))
-    exec_runs Unread a = absurd (file_there name bytes c is no_fault a.0)
-    exec_runs (Refused why) a = absurd (loaded why bytes image loads (told_of name bytes c is (Unloaded why) a.0.bytes a.0.text a.0.refused))
+    exec_runs Unread a = absurd (file_there (told c.files name) bytes c is no_fault a.0)
+    exec_runs (Refused why) a = absurd (loaded why bytes image loads (told_of (told c.files name) bytes is (Unloaded why) a.0.bytes a.0.text a.0.refused))
     exec_runs Fault a = absurd (unbroken keys.bound a.machine (written_by a.machine) c no_out no_err a.ends)
     exec_runs answer a = absurd a.ends
 
   module _ (why : Refusal) (un : Unloaded why bytes) where
     executes_none : (answer : Answer) → Executes name keys answer c → ⊥
-    executes_none answer e = loaded why bytes e.image (told_of name bytes c is (λ bs. Loads bs e.image) e.bytes e.text e.loads) un
+    executes_none answer e = loaded why bytes e.image (told_of (told c.files name) bytes is (λ bs. Loads bs e.image) e.bytes e.text e.loads) un
 
     exec_refused : (answer : Answer) → ExecAnswers name keys answer c → (status_of answer ≡ 10) ⊎ (status_of answer ≡ 7)
     exec_refused (Refused other) a = inl refl
     exec_refused NoMemory a = inr refl
-    exec_refused Unread a = absurd (file_there name bytes c is no_fault a.0)
+    exec_refused Unread a = absurd (file_there (told c.files name) bytes c is no_fault a.0)
     exec_refused answer a = absurd (executes_none answer a)
 
 exec_completes : (name : List ℕ) (keys : Keys) (answer : Answer) (c : Call) → ExecAnswers name keys answer c → ExecCompletes name keys (status_of answer) c
@@ -129,9 +130,10 @@ exec_completes name keys answer c a = record {
 
 completes_for : (request : Option Request) (answer : Answer) (c : Call) → AnsweredTo request answer c → CompletesFor request (status_of answer) c
 completes_for None answer c a = ap status_of a.0
-completes_for (Some (Run name keys)) answer c a = run_completes name keys answer c a
+completes_for (Some (Run name keys)) answer c a = run_completes (told c.files name) name keys c answer a
 completes_for (Some (Link names)) answer c a = link_completes names answer c a
 completes_for (Some (Exec name keys)) answer c a = exec_completes name keys answer c a
+completes_for (Some (Chain n keys)) answer c a = run_completes (chain_file n) (codes "chain") keys c answer a.1
 
 pub completes : (request : Option Request) (answer : Answer) (status : ℕ) (c : Call) → status ≡ status_of answer → AnsweredTo request answer c → CompletesFor request status c
 completes request answer status c is a = subst (λ (n : ℕ). CompletesFor request n c) (sym is) (completes_for request answer c a)

@@ -3,6 +3,7 @@ pub mod Texts
 pub mod Keys
 pub mod Grants
 pub mod Words
+pub mod Chain
 pub mod Refusals
 pub mod Call
 pub mod Link

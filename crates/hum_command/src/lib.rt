@@ -4,6 +4,7 @@
 #![tactic(auto)]
 
 mod answer;
+mod chain;
 mod ending;
 mod exec;
 mod keys;
@@ -17,5 +18,6 @@ mod run;
 mod top;
 mod words;
 
+pub use chain::chain_text;
 pub use record::Record;
 pub use top::humus_main;

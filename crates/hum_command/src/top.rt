@@ -1,8 +1,9 @@
 // The whole program over any folder and sinks.
-ghost use Rattle.std.specs.Prelude.{◌≡◌, ◌≤◌, map, string_bytes};
+ghost use Rattle.std.specs.Prelude.{◌≡◌, ◌≤◌, ℕ, Option, map, string_bytes};
+ghost use Rattle.hum_outside.specs.Outside.{Files};
 ghost use Rattle.hum_command.specs.Keys.{WithinLimits};
 ghost use Rattle.hum_command.specs.Call.{call};
-ghost use Rattle.hum_command.specs.RunAnswers.{RunAnswers};
+ghost use Rattle.hum_command.specs.RunAnswers.{RunAnswers, ChainAnswers};
 ghost use Rattle.hum_command.specs.LinkAnswers.{LinkAnswers};
 ghost use Rattle.hum_command.specs.ExecAnswers.{ExecAnswers};
 ghost use Rattle.hum_command.specs.Answers.{Answered, Completes, status_of};
@@ -10,6 +11,7 @@ ghost use Rattle.hum_command.specs.declared.answer.Answer.{Answer as AnyAnswer};
 ghost use Rattle.hum_command.specs.declared.record.Record.{Record as AnyRecord};
 
 use crate::answer::Answer;
+use crate::chain::start_chain;
 use crate::exec::{booted, run_machine};
 use crate::keys::Keys;
 use crate::link::link_files;
@@ -48,6 +50,37 @@ fn run_file<F: Folder, K: Sink>(
         }
         Err(answer) => {
             refuse(err, &answer, name);
+            answer
+        }
+    }
+}
+
+// Runs the text of a chain.
+fn run_chain<K: Sink>(
+    alloc: Global,
+    n: u32,
+    keys: Keys,
+    out: &mut K,
+    err: &mut K,
+    last: &mut Record,
+) -> Answer
+    requires some { 1 ≤ n }
+    requires most { n ≤ 2000 }
+    requires limits { WithinLimits keys }
+    ensures answered { (files : Option Files) (faults : ℕ) → ChainAnswers n keys result
+        (call (λ (k : ℕ). files) (λ (k : ℕ). k) K.written K.faults faults faults out.old out.new err.old err.new last.old last.new) }
+    ensures out_later { K.faults out.old ≤ K.faults out.new }
+    ensures err_later { K.faults err.old ≤ K.faults err.new }
+{
+    match start_chain(alloc, n, keys) {
+        Ok(run) => {
+            let mut run = run;
+            let answer = finish_run(&mut run, keys, out, err);
+            last.leave_run(run);
+            answer
+        }
+        Err(answer) => {
+            refuse(err, &answer, "chain");
             answer
         }
     }
@@ -143,16 +176,17 @@ fn answer<F: Folder, K: Sink>(
         Some(Command::Run(name, keys)) => run_file(alloc, name, keys, files, out, err, last),
         Some(Command::Link(names)) => link_to(alloc, names, files, out, err),
         Some(Command::Exec(name, keys)) => exec_file(alloc, name, keys, files, out, err, last),
+        Some(Command::Chain(n, keys)) => run_chain(alloc, n, keys, out, err, last),
     }
 }
 
 /// Does what the words say over these files and sinks, and gives the exit status; `last` is left the run or the machine, if one was started.
 ///
-/// The words are `run FILE KEYS`, `link FILE FILE ..` or `exec FILE KEYS`. The statuses, their causes and what each leaves are the definitions
+/// The words are `run FILE KEYS`, `link FILE FILE ..`, `exec FILE KEYS` or `chain N KEYS`. The statuses, their causes and what each leaves are the definitions
 /// of specs/Answers: 0 done, 1 the words have no form, 2 a file could not be read, 3 a text is refused, 4 a write failed, 5 the root ran out, 6
 /// the bound is reached, 7 no memory, 9 an event failed, 10 an image, a module or linking is refused.
 ///
-/// For `run`, out has exactly the output of the configuration that the deliveries of the machine's journal lead to, and err the lines of the
+/// For `run` and `chain`, out has exactly the output of the configuration that the deliveries of the machine's journal lead to, and err the lines of the
 /// events that failed and those that end the run; the run that is left stands for that configuration.
 pub fn humus_main<F: Folder, K: Sink>(
     alloc: Global,
