@@ -8,6 +8,8 @@ mod calls;
 #[cfg(test)]
 mod links;
 #[cfg(test)]
+mod listings;
+#[cfg(test)]
 mod machines;
 #[cfg(test)]
 mod outside;

@@ -5,7 +5,7 @@ use std::test::Fail;
 pub const USAGE: &str = "usage: humus COMMAND FILE.. [KEY=N..]\n";
 
 // Words without a form.
-const FORMLESS: [&[&str]; 14] = [
+const FORMLESS: [&[&str]; 17] = [
     &[],
     &["--help"],
     &["walk", "boot.asm"],
@@ -17,6 +17,9 @@ const FORMLESS: [&[&str]; 14] = [
     &["link", ""],
     &["link", "boot.asm", ""],
     &["links", "boot.asm"],
+    &["asm"],
+    &["asm", ""],
+    &["asm", "boot.asm", "boot.asm"],
     &["exec"],
     &["exec", ""],
     &["exec", "boot.asm", "boot.asm"],

@@ -69,7 +69,7 @@ refusal_of text (At place (cause.Tokens tokens)) r = (start.Lex (record { at = r
 refusal_of text (At place cause.Tree) r = (start.Parse r.0, r.2)
 refusal_of text (At place (cause.Name kind name)) r = (start.Scope (record { at = r.0; cause = kind }), (name.items, r.2))
 
-accepts : (text : Bytes) (tree : Tree) (why : TextRefusal) → Accepted text tree → RefusesText text why → ⊥
+pub accepts : (text : Bytes) (tree : Tree) (why : TextRefusal) → Accepted text tree → RefusesText text why → ⊥
 accepts text tree why accepted refused = let refusal = refusal_of text why refused in never_both text tree refusal.0 accepted refusal.1
 
 module _ (file : Option (Option (List ℕ))) (name text : List ℕ) (keys : Keys) (c : Call) (is : file ≡ Some (Some text)) where

@@ -16,4 +16,6 @@ pub mod ExecAnswers
 pub mod TextRuns
 pub mod TextRefusals
 pub mod RunAnswers
+pub mod Code
+pub mod AsmAnswers
 pub mod Answers

@@ -7,9 +7,11 @@ use Rattle.hum_command.specs.declared.keys.Keys.{Keys}
 use Rattle.hum_command.specs.declared.words.Command.{Command}
 use Rattle.hum_command.specs.declared.words.Command.TheVariants as command
 
--- what the words ask for: a text is run; modules are linked; an image or a module is run; the text of a chain of so many actors is run
+-- What the words ask for: a text is run; code is listed; modules are linked; an image or a module is run; the text of a chain of so many
+-- actors is run.
 pub data Request : Type 0 where
   Run : List ℕ → Keys → Request
+  Asm : List ℕ → Request
   Link : List (List ℕ) → Request
   Exec : List ℕ → Keys → Request
   Chain : ℕ → Keys → Request
@@ -21,6 +23,12 @@ is_file name = not (length name == 0)
 -- `link FILE FILE ..`, of 1 to 64 files
 abbrev pub link_of : List (List ℕ) → Option Request
 link_of names = if nat_le 1 (length names) && nat_le (length names) 64 && list_all is_file names then Some (Link names) else None
+
+-- `asm FILE`
+abbrev pub asm_of : List (List ℕ) → Option Request
+asm_of [] = None
+asm_of (name ∷ []) = if is_file name then Some (Asm name) else None
+asm_of (name ∷ word ∷ words) = None
 
 -- `run FILE KEYS`
 abbrev pub run_of : List (List ℕ) → Option Request
@@ -50,6 +58,7 @@ abbrev pub request_of : List (List ℕ) → Option Request
 request_of [] = None
 request_of (word ∷ words) =
     if bytes_eq word (codes "run") then run_of words else
+    if bytes_eq word (codes "asm") then asm_of words else
     if bytes_eq word (codes "link") then link_of words else
     if bytes_eq word (codes "exec") then exec_of words else
     if bytes_eq word (codes "chain") then chain_of words else None
@@ -57,6 +66,7 @@ request_of (word ∷ words) =
 -- the numbers are within their limits
 abbrev pub KeysFit : Request → Type 0
 KeysFit (Run name keys) = WithinLimits keys
+KeysFit (Asm name) = Unit {0}
 KeysFit (Link names) = Unit {0}
 KeysFit (Exec name keys) = WithinLimits keys
 KeysFit (Chain n keys) = (1 ≤ n) × (n ≤ 2000) × WithinLimits keys
@@ -64,6 +74,7 @@ KeysFit (Chain n keys) = (1 ≤ n) × (n ≤ 2000) × WithinLimits keys
 -- the request of a command
 abbrev pub request : Command → Request
 request (command.Run name keys) = Run name.now keys
+request (command.Asm name) = Asm name.now
 request (command.Link names) = Link (map string_bytes names.now)
 request (command.Exec name keys) = Exec name.now keys
 request (command.Chain n keys) = Chain n keys

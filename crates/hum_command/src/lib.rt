@@ -4,6 +4,7 @@
 #![tactic(auto)]
 
 mod answer;
+mod asm;
 mod chain;
 mod ending;
 mod exec;

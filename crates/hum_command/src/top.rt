@@ -2,8 +2,10 @@
 ghost use Rattle.std.specs.Prelude.{◌≡◌, ◌≤◌, ℕ, Option, map, string_bytes};
 ghost use Rattle.hum_outside.specs.Outside.{Files};
 ghost use Rattle.hum_command.specs.Keys.{WithinLimits};
-ghost use Rattle.hum_command.specs.Call.{call};
+ghost use Rattle.hum_command.specs.Writes.{writes};
+ghost use Rattle.hum_command.specs.Call.{call, PutsAll};
 ghost use Rattle.hum_command.specs.RunAnswers.{RunAnswers, ChainAnswers};
+ghost use Rattle.hum_command.specs.AsmAnswers.{AsmAnswers};
 ghost use Rattle.hum_command.specs.LinkAnswers.{LinkAnswers};
 ghost use Rattle.hum_command.specs.ExecAnswers.{ExecAnswers};
 ghost use Rattle.hum_command.specs.Answers.{Answered, Completes, status_of};
@@ -11,6 +13,7 @@ ghost use Rattle.hum_command.specs.declared.answer.Answer.{Answer as AnyAnswer};
 ghost use Rattle.hum_command.specs.declared.record.Record.{Record as AnyRecord};
 
 use crate::answer::Answer;
+use crate::asm::list_file;
 use crate::chain::start_chain;
 use crate::exec::{booted, run_machine};
 use crate::keys::Keys;
@@ -86,6 +89,41 @@ fn run_chain<K: Sink>(
     }
 }
 
+// Writes bytes that a command has made.
+fn put_bytes<K: Sink>(out: &mut K, bytes: &[u8]) -> Answer
+    ensures answered { PutsAll result (writes K.written K.faults out.old out.new) bytes.now }
+    ensures later { K.faults out.old ≤ K.faults out.new }
+{
+    match put_all(out, bytes) {
+        Ok(_) => Answer::Done,
+        Err(_) => Answer::Fault,
+    }
+}
+
+// Writes the listing of the code that a file holds.
+fn asm_to<F: Folder, K: Sink>(
+    alloc: Global,
+    name: &str,
+    files: &mut F,
+    out: &mut K,
+    err: &mut K,
+) -> Answer
+    ensures answered { (last : AnyRecord) → AsmAnswers name.now result
+        (call F.files F.faults K.written K.faults files.old files.new out.old out.new err.old err.new last last) }
+    ensures files { F.files files.new ≡ F.files files.old }
+    ensures files_later { F.faults files.old ≤ F.faults files.new }
+    ensures out_later { K.faults out.old ≤ K.faults out.new }
+    ensures err_later { K.faults err.old ≤ K.faults err.new }
+{
+    match list_file(alloc, files, name) {
+        Err(answer) => {
+            refuse(err, &answer, name);
+            answer
+        }
+        Ok(listing) => put_bytes(out, &listing),
+    }
+}
+
 // Links files, and writes the bytes of the image.
 fn link_to<F: Folder, K: Sink>(
     alloc: Global,
@@ -106,10 +144,7 @@ fn link_to<F: Folder, K: Sink>(
             refuse(err, &declined.answer, declined.name);
             declined.answer
         }
-        Ok(bytes) => match put_all(out, &bytes) {
-            Ok(_) => Answer::Done,
-            Err(_) => Answer::Fault,
-        },
+        Ok(bytes) => put_bytes(out, &bytes),
     }
 }
 
@@ -174,6 +209,7 @@ fn answer<F: Folder, K: Sink>(
             Answer::Usage
         }
         Some(Command::Run(name, keys)) => run_file(alloc, name, keys, files, out, err, last),
+        Some(Command::Asm(name)) => asm_to(alloc, name, files, out, err),
         Some(Command::Link(names)) => link_to(alloc, names, files, out, err),
         Some(Command::Exec(name, keys)) => exec_file(alloc, name, keys, files, out, err, last),
         Some(Command::Chain(n, keys)) => run_chain(alloc, n, keys, out, err, last),
@@ -182,7 +218,7 @@ fn answer<F: Folder, K: Sink>(
 
 /// Does what the words say over these files and sinks, and gives the exit status; `last` is left the run or the machine, if one was started.
 ///
-/// The words are `run FILE KEYS`, `link FILE FILE ..`, `exec FILE KEYS` or `chain N KEYS`. The statuses, their causes and what each leaves are the definitions
+/// The words are `run FILE KEYS`, `asm FILE`, `link FILE FILE ..`, `exec FILE KEYS` or `chain N KEYS`. The statuses, their causes and what each leaves are the definitions
 /// of specs/Answers: 0 done, 1 the words have no form, 2 a file could not be read, 3 a text is refused, 4 a write failed, 5 the root ran out, 6
 /// the bound is reached, 7 no memory, 9 an event failed, 10 an image, a module or linking is refused.
 ///

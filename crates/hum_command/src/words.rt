@@ -11,6 +11,8 @@ use crate::keys::{Keys, RUN_KEYS, keys_of, number_of};
 pub enum Command<'a> {
     /// `run FILE KEYS`: a text is run.
     Run(&'a str, Keys),
+    /// `asm FILE`: the listing of a file's code is written.
+    Asm(&'a str),
     /// `link FILE FILE ..`: 1 to 64 modules are linked.
     Link(&'a [String]),
     /// `exec FILE KEYS`: an image or a module is run.
@@ -36,6 +38,16 @@ fn link_of(words: &[String]) -> Option<Command<'_>>
         Some(Command::Link(words))
     } else {
         None
+    }
+}
+
+fn asm_of(words: &[String]) -> Option<Command<'_>>
+    ensures value { option_map spec.request result ≡ spec.asm_of (map string_bytes words.now) }
+    ensures limits { IfSome result (λ command. spec.KeysFit (spec.request command)) }
+{
+    match words {
+        [name] if !name.is_empty() => Some(Command::Asm(name.as_str())),
+        _ => None,
     }
 }
 
@@ -91,6 +103,7 @@ pub fn command_of(words: &[String]) -> Option<Command<'_>>
         [] => None,
         [word, more @ ..] => match word.as_str() {
             "run" => run_of(more),
+            "asm" => asm_of(more),
             "link" => link_of(more),
             "exec" => exec_of(more),
             "chain" => chain_of(more),
