@@ -33,7 +33,7 @@ pub fn call_over(
 ) -> Result<Outcome, AllocError> {
     let words = owned(alloc, words)?;
     let mut files = MemFolder::new(files, fails[0].to_vec(alloc)?);
-    let mut out = MemSink::with_room(alloc, 10_000, 1, fails[1].to_vec(alloc)?)?;
+    let mut out = MemSink::with_room(alloc, 50_000, 1, fails[1].to_vec(alloc)?)?;
     let mut err = MemSink::with_room(alloc, 200, 1, fails[2].to_vec(alloc)?)?;
     let mut last = Record::empty();
     let status = humus_main(alloc, &words, &mut files, &mut out, &mut err, &mut last);
