@@ -13,6 +13,7 @@ use Rattle.hum_command.specs.TextRefusals.{TextFails, StartFails}
 use Rattle.hum_command.specs.RunAnswers.{RunsFile, FileAnswers}
 use Rattle.hum_command.specs.Code.{is_assembled, HoldsCode, listing_text, CodeFails}
 use Rattle.hum_command.specs.AsmAnswers.{AsmAnswers}
+use Rattle.hum_command.specs.DebugAnswers.{Debugs, DebugFails, DebugAnswers}
 use Rattle.hum_command.specs.LinkAnswers.{LinkAnswers}
 use Rattle.hum_command.specs.ExecAnswers.{Executes, ExecAnswers}
 use Rattle.hum_command.specs.declared.keys.Keys.{Keys}
@@ -70,6 +71,20 @@ module _ (names : List (List ℕ)) (c : Call) where
     linked Done puts = record { texts = texts; have = have; image = image; links = links; out = puts; silent = silent; last = last }
     linked Fault puts = record { texts = texts; have = have; image = image; links = links; out = puts; silent = silent; last = last }
     linked answer puts = absurd puts
+
+-- ---- `debug`
+
+module _ (name script : List ℕ) (keys : Keys) (c : Call) where
+  pub declined_debug : (answer : Answer) (x : List ℕ) → DebugFails c.files c.faults_old c.faults_new name script answer x → Declines answer c x
+      → DebugAnswers name script keys answer c
+  declined_debug Done x fails d = absurd fails
+  declined_debug Fault x fails d = absurd fails
+  declined_debug answer x fails d = (x, fails, d)
+
+  pub debugged : (answer : Answer) → Debugs name script keys answer c → DebugAnswers name script keys answer c
+  debugged Done d = d
+  debugged Fault d = d
+  debugged answer d = absurd d.ends
 
 pub declined_exec : (answer : Answer) (c : Call) (name : List ℕ) (keys : Keys) → LoadFails c.faults_old c.faults_new (told c.files name) answer
     → Declines answer c name → ExecAnswers name keys answer c

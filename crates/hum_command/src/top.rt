@@ -263,13 +263,13 @@ fn answer<F: Folder, K: Sink>(
 
 /// Does what the words say over these files and sinks, and gives the exit status; `last` is left the run or the machine, if one was started.
 ///
-/// The words are `run FILE KEYS`, `asm FILE`, `link FILE FILE ..`, `exec FILE KEYS`, `debug FILE SCRIPT KEYS` or `chain N KEYS`. The statuses, their causes and what each leaves are the definitions
-/// of specs/Answers: 0 done, 1 the words have no form, 2 a file could not be read, 3 a text is refused, 4 a write failed, 5 the root ran out, 6
-/// the bound is reached, 7 no memory, 9 an event failed, 10 an image, a module or linking is refused, 11 a script is
-/// refused.
+/// The words are `run FILE KEYS`, `asm FILE`, `link FILE FILE ..`, `exec FILE KEYS`, `debug FILE SCRIPT KEYS` or `chain N KEYS`. The statuses,
+/// their causes and what each leaves are the definitions of specs/Answers: 0 done, 1 the words have no form, 2 a file could not be read, 3 a
+/// text is refused, 4 a write failed, 5 the root ran out, 6 the bound is reached, 7 no memory, 9 an event failed, 10 an image, a module or
+/// linking is refused, 11 a script is refused.
 ///
-/// For `run` and `chain`, out has exactly the output of the configuration that the deliveries of the machine's journal lead to, and err the lines of the
-/// events that failed and those that end the run; the run that is left stands for that configuration.
+/// For `run` and `chain`, out has exactly the output of the configuration that the deliveries of the machine's journal lead to, and err the
+/// lines of the events that failed and those that end the run; the run that is left stands for that configuration.
 pub fn humus_main<F: Folder, K: Sink>(
     alloc: Global,
     words: &[String],
