@@ -137,7 +137,10 @@ pub fn read_session<'a, F: Folder>(
     };
     let lines = match read_file(alloc, files, script, SCRIPT_LIMIT) {
         Ok(lines) => lines,
-        Err(answer) => return Err(Declined { answer, name: script }),
+        Err(answer) => return Err(Declined {
+            answer,
+            name: script,
+        }),
     };
     let machine = match boot_code(alloc, text, code, keys) {
         Ok(machine) => machine,
@@ -145,7 +148,10 @@ pub fn read_session<'a, F: Folder>(
     };
     match commands_in(alloc, lines) {
         Ok(commands) => Ok(Session { machine, commands }),
-        Err(answer) => Err(Declined { answer, name: script }),
+        Err(answer) => Err(Declined {
+            answer,
+            name: script,
+        }),
     }
 }
 

@@ -63,13 +63,7 @@ pub const RUN_KEYS: [Key; 6] = [
 ];
 
 /// The keys of a machine that is debugged.
-pub const DEBUG_KEYS: [Key; 5] = [
-    Key::Memory,
-    Key::Events,
-    Key::Cycles,
-    Key::Lanes,
-    Key::Seed,
-];
+pub const DEBUG_KEYS: [Key; 5] = [Key::Memory, Key::Events, Key::Cycles, Key::Lanes, Key::Seed];
 
 impl Key {
     fn front(self) -> &'static [u8]

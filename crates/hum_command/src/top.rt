@@ -28,6 +28,7 @@ use crate::words::{Command, command_of};
 use hum_outside::{Folder, Sink, put_all};
 use quad_debug::Debug;
 use std::alloc::Global;
+use vm_devices::WriteFault;
 
 // Runs the text that a file holds.
 fn run_file<F: Folder, K: Sink>(
@@ -225,7 +226,7 @@ fn debug_file<F: Folder, K: Sink>(
     last.leave_machine(debug.end());
     match obeyed {
         Ok(()) => Answer::Done,
-        Err(_) => Answer::Fault,
+        Err(WriteFault) => Answer::Fault,
     }
 }
 
