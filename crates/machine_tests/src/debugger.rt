@@ -1,0 +1,224 @@
+// Commands of a debugger.
+use cap_words::{Quad, Word};
+use hum_outside::MemSink;
+use instr_table::{Op, Quota, encode};
+use quad_debug::{Command, Debug, Place, ScriptError, WriteFault, read_script};
+use quad_memory::{Image, NoMemory};
+use std::alloc::Global;
+use std::process::Abort;
+use std::test::Fail;
+use vm_machine::{Lanes, Machine};
+use vm_sponsor::Grant;
+use vm_turn::{Entry, Outcome};
+
+fn rom(rt: &impl Abort, n: u32) -> Word {
+    Word::rom_bits(n).expect(rt, "a ROM word")
+}
+
+// Message 0 sends 42 to a device.
+fn sends(rt: &impl Abort, alloc: Global, device: i32) -> Result<Vec<Quad>, NoMemory> {
+    let number = Word::fix(42).expect(rt, "a number");
+    let cells = vec![in alloc;
+        encode(Op::Push(number), rom(rt, 17)),
+        encode(Op::State(device), rom(rt, 18)),
+        encode(Op::ActorSend, rom(rt, 19)),
+        encode(Op::End(1), Word::UNDEF),
+    ]?;
+    Ok(cells)
+}
+
+// A debugger of a machine of these cells with one lane.
+fn debugger(
+    rt: &impl Abort,
+    alloc: Global,
+    cells: Vec<Quad>,
+    cycles: u32,
+) -> Result<Debug, NoMemory> {
+    let image = Image::new(rom(rt, 16), cells).expect(rt, "an image");
+    let grant = Grant::new(1000, 200, cycles).expect(rt, "a grant");
+    let machine = Machine::boot(alloc, &image, grant, Lanes { count: 1, seed: 7 })?;
+    Debug::start(alloc, machine)
+}
+
+// Obeys each command of a script, and gives what was written.
+fn told(
+    rt: &impl Abort,
+    alloc: Global,
+    debug: &mut Debug,
+    script: &str,
+) -> Result<MemSink, NoMemory> {
+    let mut out = MemSink::with_room(alloc, 10_000, 100, Vec::new(alloc))?;
+    let commands = read_script(alloc, script.as_bytes()).expect(rt, "a script");
+    for command in &commands {
+        assert!(rt; debug.obey(*command, &mut out).is_ok());
+    }
+    Ok(out)
+}
+
+// The device (1 is `println`, 2 is `say`) and the cycles; a script, and what obeying it writes.
+const ROWS: [(i32, u32, &str, &str); 9] = [
+    (
+        1,
+        100,
+        "queue\nevent 1\nqueue\nevent 5\nback 2\n",
+        "* ready 0\n* event 0 committed\n* ready 1\n42\n* event 1 committed\n* rest\n* event 0 committed\n* event 1 committed\n",
+    ),
+    (
+        1,
+        100,
+        "step 0\nstep 3\nstep 10\nstep 1\nevent 0\nbreak 1\nbreak 7",
+        "* turn 0\n* turn 3\n42\n* turn 6\n* turn 6\n* rest\n* rest\n* rest\n",
+    ),
+    (
+        1,
+        100,
+        "event 0\nbreak 0\nbreak 0\nbreak 1\n",
+        "* in flight 0\n* in flight 0\n* event 0 committed\n42\n* event 1 committed\n",
+    ),
+    (
+        2,
+        100,
+        "event 2\nback 1\n",
+        "* event 0 committed\n* event 1 failed: device refused\n* event 1 failed: device refused\n",
+    ),
+    (
+        1,
+        3,
+        "event 1\nevent 1\nbreak 0\nbreak 9\nback 64\nstep 5\n",
+        "* event 0 spent cycles\n* spent\n* spent\n* spent\n* spent\n* event 0 spent cycles\n* turn 5\n",
+    ),
+    (
+        1,
+        100,
+        "show rom 15\nshow rom 16\nshow rom 20\nshow ram 6\nshow ram 8",
+        "* rom 15 none\n* rom 16 00000009 80000000 8000002A 00000011\n* rom 20 none\n* ram 6 00000006 00000010 20000005 00000000\n* ram 8 none\n",
+    ),
+    (
+        1,
+        100,
+        "step 2\nsheet\n",
+        "* turn 2\n* sponsor 0 memory received 1000 passed 0 spent 1 held 999\n* sponsor 0 events received 200 passed 0 spent 0 held 200\n* sponsor 0 cycles received 100 passed 0 spent 1 held 99\n",
+    ),
+    (1, 100, " step\t1 \r\n\n  \t\nqueue", "* turn 1\n"),
+    (1, 100, "event 2\nevent 1", "* event 0 committed\n42\n* event 1 committed\n* rest\n"),
+];
+
+#[test]
+fn scripts_are_obeyed(rt: HostRuntime) -> Result<(), Fail> {
+    let alloc = rt.alloc();
+    for (device, cycles, script, text) in ROWS {
+        let cells = sends(&rt, alloc, device)?;
+        let mut debug = debugger(&rt, alloc, cells, cycles)?;
+        let out = told(&rt, alloc, &mut debug, script)?;
+        assert_eq!(rt; out.bytes(), text.as_bytes());
+    }
+    Ok(())
+}
+
+// Which call on out fails; what then stands there, how many entries the journal has, and what the next `event 9` writes.
+const FAULTS: [(u64, &str, usize, &str); 3] = [
+    (0, "", 1, "42\n* event 1 committed\n* rest\n"),
+    (21, "* event 0 committed\n4", 1, "42\n* event 1 committed\n* rest\n"),
+    (25, "* event 0 committed\n42\n* ", 2, "* rest\n"),
+];
+
+#[test]
+fn a_write_fails_and_the_next_command_goes_on(rt: HostRuntime) -> Result<(), Fail> {
+    let alloc = rt.alloc();
+    for (call, text, entries, rest) in FAULTS {
+        let mut debug = debugger(&rt, alloc, sends(&rt, alloc, 1)?, 100)?;
+        let mut out = MemSink::with_room(alloc, 100, 1, vec![in alloc; call]?)?;
+        assert!(rt; debug.obey(Command::Event(9), &mut out) == Err(WriteFault));
+        assert_eq!(rt; out.bytes(), text.as_bytes());
+        let mut out = MemSink::with_room(alloc, 100, 100, Vec::new(alloc))?;
+        assert!(rt; debug.obey(Command::Event(9), &mut out).is_ok());
+        assert_eq!(rt; out.bytes(), rest.as_bytes());
+        let machine = debug.end();
+        assert!(rt; machine.journal().len() >= entries);
+    }
+    Ok(())
+}
+
+// Scripts that are refused, and the first line that is neither blank nor a command.
+const REFUSED: [(&str, u32); 16] = [
+    ("walk 3", 1),
+    ("step 1\r\nstep\n", 2),
+    ("\n\nstep 1 2", 3),
+    ("step 1234567890", 1),
+    ("step -1", 1),
+    ("step", 1),
+    ("queue 1", 1),
+    ("back 0", 1),
+    ("back 65", 1),
+    ("show 5", 1),
+    ("show rim 5", 1),
+    ("show rom x", 1),
+    ("show rom 1 2", 1),
+    ("queue ; now", 1),
+    ("queue\nqueue\r", 2),
+    ("Queue", 1),
+];
+
+#[test]
+fn scripts_are_read(rt: HostRuntime) -> Result<(), Fail> {
+    let alloc = rt.alloc();
+    for (script, line) in REFUSED {
+        let refused = read_script(alloc, script.as_bytes());
+        assert!(rt; matches!(refused, Err(ScriptError::Refused { line: at }) if at == line));
+    }
+    let all = "step 000000001\nevent 999999999\nbreak 0\nshow rom 16\nshow ram 1\nqueue\nsheet\nback 64";
+    let commands = read_script(alloc, all.as_bytes()).expect(&rt, "a script");
+    let wanted = [
+        Command::Step(1),
+        Command::Event(999_999_999),
+        Command::BreakAt(0),
+        Command::Show(Place::Rom(16)),
+        Command::Show(Place::Ram(1)),
+        Command::Queue,
+        Command::Sheet,
+        Command::Back(64),
+    ];
+    assert!(rt; commands.as_slice() == wanted.as_slice());
+    let none = read_script(alloc, b"").expect(&rt, "an empty script");
+    assert!(rt; none.is_empty());
+    Ok(())
+}
+
+// Each event of the first actor sends it a message, so that there are more entries than are kept.
+fn repeats(rt: &impl Abort, alloc: Global) -> Result<Vec<Quad>, NoMemory> {
+    let cells = vec![in alloc;
+        encode(Op::Push(Word::NIL), rom(rt, 17)),
+        encode(Op::My(0), rom(rt, 18)),
+        encode(Op::ActorSend, rom(rt, 19)),
+        encode(Op::End(1), Word::UNDEF),
+    ]?;
+    Ok(cells)
+}
+
+#[test]
+fn the_last_entries_are_kept(rt: HostRuntime) -> Result<(), Fail> {
+    let alloc = rt.alloc();
+    let mut debug = debugger(&rt, alloc, repeats(&rt, alloc)?, 1000)?;
+    let mut out = MemSink::with_room(alloc, 10_000, 100, Vec::new(alloc))?;
+    assert!(rt; debug.obey(Command::Event(70), &mut out).is_ok());
+    let mut out = MemSink::with_room(alloc, 10_000, 100, Vec::new(alloc))?;
+    assert!(rt; debug.obey(Command::Back(64), &mut out).is_ok());
+    let mut wanted = String::new(alloc);
+    for message in 6..70 {
+        let line = format!(in alloc; "* event {message} committed\n")?;
+        wanted.push_str(&line)?;
+    }
+    assert_eq!(rt; out.bytes(), wanted.as_bytes());
+    // A debugger that is started now keeps none of them.
+    let mut debug = Debug::start(alloc, debug.end())?;
+    let out = told(&rt, alloc, &mut debug, "back 3\nevent 1\nback 3")?;
+    assert_eq!(rt; out.bytes(), b"* event 70 committed\n* event 70 committed\n".as_slice());
+    let none: Option<Quad> = debug.show(Place::Rom(0));
+    assert!(rt; none.is_none());
+    let committed = Entry {
+        message: 70,
+        outcome: Outcome::Committed,
+    };
+    assert!(rt; debug.end().journal().last() == Some(&committed));
+    Ok(())
+}
