@@ -8,9 +8,9 @@ ghost use Rattle.vm_turn.specs.declared.journal.Entry.{Entry as Ended};
 ghost use Rattle.vm_turn.specs.declared.journal.Turn.TheVariants.{Finished};
 
 use crate::driven::Driven;
-use crate::failure::put_failure;
 use crate::stop::{Stop, WriteFault};
 use cap_words::Word;
+use failure_lines::put_failure;
 use hum_outside::{Failed, Sink};
 use instr_table::Quota;
 use vm_machine::Machine;

@@ -132,7 +132,8 @@ impl Debug {
         let turns = self.machine.turns();
         let ended = self.machine.journal().len();
         let _answer = self.machine.turn(out)?;
-        self.entries.extend_from_slice(&self.machine.journal()[ended..]);
+        self.entries
+            .extend_from_slice(&self.machine.journal()[ended..]);
         Ok(self.machine.turns() > turns)
     }
 
