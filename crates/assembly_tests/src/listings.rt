@@ -46,7 +46,8 @@ end commit\nc35:\nmsg 0\nstate 1\nactor send\nend commit\nc39:\ndebug\nref c39\n
 
 const PAIRS: &[u8] =
     b"; Sends 42, and then a list, to println.\n.export boot\nboot:\n    push 42\n    state 1 ; println\n    actor send\n\
-    push answers\n    state 1\n    actor send\n    ref done\nanswers:\n    pair_t 1 more\nmore:\n    pair_t 2 #nil\ndone:\n    end commit\n";
+    push answers\n    state 1\n    actor send\n    ref done\n\
+answers:\n    pair_t 1 more\nmore:\n    pair_t 2 #nil\ndone:\n    end commit\n";
 
 const PAIRS_LISTED: &[u8] =
     b".export boot\nboot:\npush 42\nstate 1\nactor send\npush c22\nstate 1\nactor send\nref c24\n\
@@ -161,28 +162,38 @@ fn is_first_named(module: &Module, name: &[u8]) -> bool {
     matches!(y, Operand::Label(found) if found.bytes() == name) && matches!(z, Operand::Following)
 }
 
-#[test]
-fn the_largest_image_is_listed(rt: HostRuntime) -> Result<(), Fail> {
-    let alloc = rt.alloc();
+// An instruction that pushes the last cell of the largest image.
+fn push_last(next: u32) -> Quad {
+    Quad {
+        t: Word::INSTR_T,
+        x: Word::fix(0).unwrap_or(Word::UNDEF),
+        y: Word::rom_bits(1_048_575).unwrap_or(Word::UNDEF),
+        z: Word::rom_bits(next).unwrap_or(Word::UNDEF),
+    }
+}
+
+// Two instructions, and as many pairs as an image has room for.
+fn largest_image(alloc: Global) -> Result<Image, Fail> {
     let pair = Quad {
         t: Word::PAIR_T,
         x: Word::NIL,
         y: Word::NIL,
         z: Word::UNDEF,
     };
-    let push = |next: u32| Quad {
-        t: Word::INSTR_T,
-        x: Word::fix(0).unwrap_or(Word::UNDEF),
-        y: Word::rom_bits(1_048_575).unwrap_or(Word::UNDEF),
-        z: Word::rom_bits(next).unwrap_or(Word::UNDEF),
-    };
-    let mut cells = vec![in alloc; pair; 1_048_560]?;
-    if let [first, second, ..] = cells.as_mut_slice() {
-        *first = push(17);
-        *second = push(16);
+    let mut cells = Vec::new(alloc);
+    cells.push(push_last(17))?;
+    cells.push(push_last(16))?;
+    for _ in 2..1_048_560 {
+        cells.push(pair)?;
     }
     let boot = Word::rom_bits(16).unwrap_or(Word::UNDEF);
-    let image = Image::new(boot, cells).ok_or("an image")?;
+    Ok(Image::new(boot, cells).ok_or("an image")?)
+}
+
+#[test]
+fn the_largest_image_is_listed(rt: HostRuntime) -> Result<(), Fail> {
+    let alloc = rt.alloc();
+    let image = largest_image(alloc)?;
     let module = listing(alloc, &image)?;
     assert!(rt; is_last_labelled(&module, b"c1048575"));
     assert!(rt; is_first_named(&module, b"c1048575"));

@@ -36,7 +36,8 @@ pub rom_parts : (count : ℕ) (q : Quad) → is_rom_quad count q ≡ true
     → (is_rom_word count q.t ≡ true) × (is_rom_word count q.x ≡ true) × (is_rom_word count q.y ≡ true) × (is_rom_word count q.z ≡ true)
 rom_parts count q h = four_parts (is_rom_word count q.t) (is_rom_word count q.x) (is_rom_word count q.y) (is_rom_word count q.z) h
 
-pub exact_parts : (q : Quad) → is_exact_quad q ≡ true → (is_exact q.t ≡ true) × (is_exact q.x ≡ true) × (is_exact q.y ≡ true) × (is_exact q.z ≡ true)
+pub exact_parts : (q : Quad) → is_exact_quad q ≡ true
+    → (is_exact q.t ≡ true) × (is_exact q.x ≡ true) × (is_exact q.y ≡ true) × (is_exact q.z ≡ true)
 exact_parts q h = four_parts (is_exact q.t) (is_exact q.x) (is_exact q.y) (is_exact q.z) h
 
 -- ---- tests of names
@@ -48,7 +49,8 @@ joined : (R : Name → Bool) (xs ys : List Name) → list_all R xs ≡ true → 
 joined R xs ys h k = list_all-append R xs ys ∙ and_from (list_all R xs) (list_all R ys) h k
 
 names_apart : (R : Name → Bool) (t x y z : Operand) → list_all R (flat_map names_in (t ∷ x ∷ y ∷ z ∷ [])) ≡ true
-    → (list_all R (names_in t) ≡ true) × (list_all R (names_in x) ≡ true) × (list_all R (names_in y) ≡ true) × (list_all R (names_in z) ≡ true)
+    → (list_all R (names_in t) ≡ true) × (list_all R (names_in x) ≡ true) × (list_all R (names_in y) ≡ true) ×
+    (list_all R (names_in z) ≡ true)
 names_apart R t x y z h =
     let one = apart R (names_in t) (names_in x ++ (names_in y ++ (names_in z ++ []))) h in
     let two = apart R (names_in x) (names_in y ++ (names_in z ++ [])) one.1 in
@@ -60,13 +62,16 @@ names_joined : (R : Name → Bool) (t x y z : Operand) → list_all R (names_in 
     → list_all R (names_in y) ≡ true → list_all R (names_in z) ≡ true → list_all R (flat_map names_in (t ∷ x ∷ y ∷ z ∷ [])) ≡ true
 names_joined R t x y z ht hx hy hz =
     joined R (names_in t) (names_in x ++ (names_in y ++ (names_in z ++ []))) ht
-    (joined R (names_in x) (names_in y ++ (names_in z ++ [])) hx (joined R (names_in y) (names_in z ++ []) hy (joined R (names_in z) [] hz refl)))
+    (joined R (names_in x) (names_in y ++ (names_in z ++ [])) hx
+    (joined R (names_in y) (names_in z ++ []) hy (joined R (names_in z) [] hz refl)))
 
 -- each of these names is one of them
-each_there : (xs names : List Name) → ((name : Name) → has_name xs name ≡ true → has_name names name ≡ true) → list_all (has_name names) xs ≡ true
+each_there : (xs names : List Name) → ((name : Name) → has_name xs name ≡ true → has_name names name ≡ true)
+    → list_all (has_name names) xs ≡ true
 each_there [] names within = refl
 each_there (x ∷ xs) names within =
-    and_from (has_name names x) (list_all (has_name names) xs) (within x (or_left (bytes_eq x x) (has_name xs x) ((bytes_eq-Decides x x).1 refl)))
+    and_from (has_name names x) (list_all (has_name names) xs)
+    (within x (or_left (bytes_eq x x) (has_name xs x) ((bytes_eq-Decides x x).1 refl)))
     (each_there xs names (λ name h. within name (or_right (bytes_eq name x) (has_name xs name) h)))
 
 pub all_there : (names : List Name) → list_all (has_name names) names ≡ true
@@ -134,17 +139,21 @@ module _ (count : ℕ) (few : count ≤ 1048560) where
   module _ (P : Name → Bool) where
     -- where the names of all operands have P, each name with P that is a cell's has Q
     module _ (Q : Name → Bool) (implies : (k : ℕ) → 16 ≤ k → k < 16 + count → P (cell_label k) ≡ true → Q (cell_label k) ≡ true) where
-      word_used : (w : W) → is_rom_word count w ≡ true → list_all P (names_in (word_operand w)) ≡ true → list_all Q (names_in (word_operand w)) ≡ true
+      word_used : (w : W) → is_rom_word count w ≡ true → list_all P (names_in (word_operand w)) ≡ true
+          → list_all Q (names_in (word_operand w)) ≡ true
       word_used (Fix n) h p = refl
       word_used (Rom k) h p = by_case (nat_lt k 16) refl p
         where
-          by_case : (b : Bool) → nat_lt k 16 ≡ b → list_all P (names_in (rom_operand b k)) ≡ true → list_all Q (names_in (rom_operand b k)) ≡ true
+          by_case : (b : Bool) → nat_lt k 16 ≡ b → list_all P (names_in (rom_operand b k)) ≡ true
+              → list_all Q (names_in (rom_operand b k)) ≡ true
           by_case true is p = refl
-          by_case false is p = and_from (Q (cell_label k)) true (implies k (ltb-false k 16 is) (rom_low k h) (and_parts (P (cell_label k)) true p).0) refl
+          by_case false is p = and_from (Q (cell_label k)) true
+              (implies k (ltb-false k 16 is) (rom_low k h) (and_parts (P (cell_label k)) true p).0) refl
       word_used (Ram n) h p = absurd (let z : false ≡ true = h in cc)
       word_used (Cap n) h p = absurd (let z : false ≡ true = h in cc)
 
-      next_used : (at : ℕ) (q : Quad) (after : List Quad) → is_rom_word count q.z ≡ true → list_all P (names_in (next_operand at q after)) ≡ true
+      next_used : (at : ℕ) (q : Quad) (after : List Quad) → is_rom_word count q.z ≡ true
+          → list_all P (names_in (next_operand at q after)) ≡ true
           → list_all Q (names_in (next_operand at q after)) ≡ true
       next_used at q after h p = by_case (is_followed at q after) p
         where
@@ -152,7 +161,8 @@ module _ (count : ℕ) (few : count ≤ 1048560) where
           by_case true p = refl
           by_case false p = word_used q.z h p
 
-      pub names_used : (at : ℕ) (qs : List Quad) → list_all (is_rom_quad count) qs ≡ true → list_all P (operand_names at qs) ≡ true → list_all Q (operand_names at qs) ≡ true
+      pub names_used : (at : ℕ) (qs : List Quad) → list_all (is_rom_quad count) qs ≡ true → list_all P (operand_names at qs) ≡ true
+          → list_all Q (operand_names at qs) ≡ true
       unfolding operand_names
       names_used at [] roms p = refl
       names_used at (q ∷ after) roms p =
@@ -167,25 +177,30 @@ module _ (count : ℕ) (few : count ≤ 1048560) where
 
     -- where the names of all operands have P, and each name with P that is a cell's stands for the cell, the operands link to their words
     module _ (words : Name → W) (found : (k : ℕ) → 16 ≤ k → k < 16 + count → P (cell_label k) ≡ true → words (cell_label k) ≡ Rom k) where
-      word_linked : (at : ℕ) (w : W) → is_rom_word count w ≡ true → list_all P (names_in (word_operand w)) ≡ true → linked_word words at (word_operand w) ≡ w
+      word_linked : (at : ℕ) (w : W) → is_rom_word count w ≡ true → list_all P (names_in (word_operand w)) ≡ true
+          → linked_word words at (word_operand w) ≡ w
       word_linked at (Fix n) h p = refl
       word_linked at (Rom k) h p = by_case (nat_lt k 16) refl p
         where
-          by_case : (b : Bool) → nat_lt k 16 ≡ b → list_all P (names_in (rom_operand b k)) ≡ true → linked_word words at (rom_operand b k) ≡ Rom k
+          by_case : (b : Bool) → nat_lt k 16 ≡ b → list_all P (names_in (rom_operand b k)) ≡ true
+              → linked_word words at (rom_operand b k) ≡ Rom k
           by_case true is p = refl
           by_case false is p = found k (ltb-false k 16 is) (rom_low k h) (and_parts (P (cell_label k)) true p).0
       word_linked at (Ram n) h p = absurd (let z : false ≡ true = h in cc)
       word_linked at (Cap n) h p = absurd (let z : false ≡ true = h in cc)
 
-      next_linked : (at : ℕ) (q : Quad) (after : List Quad) → is_rom_word count q.z ≡ true → list_all P (names_in (next_operand at q after)) ≡ true
+      next_linked : (at : ℕ) (q : Quad) (after : List Quad) → is_rom_word count q.z ≡ true
+          → list_all P (names_in (next_operand at q after)) ≡ true
           → linked_word words at (next_operand at q after) ≡ q.z
       next_linked at q after h p = by_case (is_followed at q after) refl p
         where
-          by_case : (b : Bool) → is_followed at q after ≡ b → list_all P (names_in (next_by b q)) ≡ true → linked_word words at (next_by b q) ≡ q.z
+          by_case : (b : Bool) → is_followed at q after ≡ b → list_all P (names_in (next_by b q)) ≡ true
+              → linked_word words at (next_by b q) ≡ q.z
           by_case true is p = sym (followed_parts at q after is).1
           by_case false is p = word_linked at q.z h p
 
-      pub cells_linked : (boot : W) (named : ℕ → Bool) (at : ℕ) (qs : List Quad) → list_all (is_rom_quad count) qs ≡ true → list_all P (operand_names at qs) ≡ true
+      pub cells_linked : (boot : W) (named : ℕ → Bool) (at : ℕ) (qs : List Quad) → list_all (is_rom_quad count) qs ≡ true
+          → list_all P (operand_names at qs) ≡ true
           → linked_cells words at (cell_items boot named at qs) ≡ qs
       unfolding linked_cells cell_items operand_names
       cells_linked boot named at [] roms p = refl
@@ -195,9 +210,11 @@ module _ (count : ℕ) (few : count ≤ 1048560) where
           let both = apart P (names_of at q after) (operand_names (at + 1) after) p in
           let four = names_apart P (word_operand q.t) (word_operand q.x) (word_operand q.y) (next_operand at q after) both.0 in
           let cell : linked_cell words at (cell_operands at q after) ≡ q =
-          same_quad (linked_word words at (word_operand q.t)) (linked_word words at (word_operand q.x)) (linked_word words at (word_operand q.y))
+          same_quad (linked_word words at (word_operand q.t)) (linked_word words at (word_operand q.x))
+          (linked_word words at (word_operand q.y))
           (linked_word words at (next_operand at q after)) q
-          (word_linked at q.t own.0 four.0) (word_linked at q.x own.1 four.1) (word_linked at q.y own.2 four.2) (next_linked at q after own.3 four.3) in
+          (word_linked at q.t own.0 four.0) (word_linked at q.x own.1 four.1) (word_linked at q.y own.2 four.2)
+          (next_linked at q after own.3 four.3) in
           ap (λ (c : Quad). c ∷ linked_cells words (at + 1) (cell_items boot named (at + 1) after)) cell
           ∙ ap (λ (cs : List Quad). q ∷ cs) (cells_linked boot named (at + 1) after parts.1 both.1)
         where

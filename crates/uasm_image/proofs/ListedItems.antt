@@ -84,19 +84,22 @@ plain_cell : (t x y z : Operand) (after : List Item) → is_word t ≡ true → 
     → is_cell (t ∷ x ∷ y ∷ z ∷ []) after ≡ true
 plain_cell t x y (operand.Fix n) after ht hx hy hz = four (is_word t) (is_word x) (is_word y) (is_word (operand.Fix n)) ht hx hy hz
 plain_cell t x y (operand.Const k) after ht hx hy hz = four (is_word t) (is_word x) (is_word y) (is_word (operand.Const k)) ht hx hy hz
-plain_cell t x y (operand.Label name) after ht hx hy hz = four (is_word t) (is_word x) (is_word y) (is_word (operand.Label name)) ht hx hy hz
+plain_cell t x y (operand.Label name) after ht hx hy hz = four (is_word t) (is_word x) (is_word y)
+    (is_word (operand.Label name)) ht hx hy hz
 plain_cell t x y operand.Following after ht hx hy hz = absurd (both_ways false refl hz)
 
 instr_operand : (w : W) → w ≡ instr_t → is_instr_t (word_operand w) ≡ true
 instr_operand w e = ap (λ (v : W). is_instr_t (word_operand v)) e
 
-begins : (boot : W) (named : ℕ → Bool) (at : ℕ) (qs : List Quad) → is_instruction_first qs ≡ true → begins_with_instruction (cell_items boot named at qs) ≡ true
+begins : (boot : W) (named : ℕ → Bool) (at : ℕ) (qs : List Quad) → is_instruction_first qs ≡ true
+    → begins_with_instruction (cell_items boot named at qs) ≡ true
 unfolding cell_items
 begins boot named at [] h = absurd (both_ways false refl h)
 begins boot named at (q ∷ after) h = instr_operand q.t (word_same q.t instr_t h)
 
 module _ (lines : OperationsHaveLines) (count : ℕ) (few : count ≤ 1048560) where
-  line_of_cell : (q : Quad) → is_rom_quad count q ≡ true → is_exact_quad q ≡ true → goes_on (operation q) ≡ true → LineOf q.x (word_operand q.y)
+  line_of_cell : (q : Quad) → is_rom_quad count q ≡ true → is_exact_quad q ≡ true → goes_on (operation q) ≡ true
+      → LineOf q.x (word_operand q.y)
   line_of_cell q rom exact h =
       let own = rom_parts count q rom in
       let in_range = exact_parts q exact in
@@ -109,21 +112,24 @@ module _ (lines : OperationsHaveLines) (count : ℕ) (few : count ≤ 1048560) w
       let line = line_of_cell q rom exact h in
       ap (λ (x : W). may_go_on (numbered (word_operand x)) (word_operand q.y)) line.number
       ∙ ap (λ (found : Option Operation). may_go_on found (word_operand q.y)) (number_found line.line)
-      ∙ and_from (line_goes_on line.line) (fits (row_of line.line).operand (word_operand q.y)) (line_goes line.line q line.number h) line.operand
+      ∙ and_from (line_goes_on line.line) (fits (row_of line.line).operand (word_operand q.y))
+      (line_goes line.line q line.number h) line.operand
 
   cell_is : (boot : W) (named : ℕ → Bool) (at : ℕ) (q : Quad) (after : List Quad) → is_rom_quad count q ≡ true → is_exact_quad q ≡ true
       → is_cell (cell_operands at q after) (cell_items boot named (at + 1) after) ≡ true
   cell_is boot named at q after rom exact = by_case (is_followed at q after) refl
     where
       by_case : (b : Bool) → is_followed at q after ≡ b
-          → is_cell (word_operand q.t ∷ word_operand q.x ∷ word_operand q.y ∷ (if b then operand.Following else word_operand q.z) ∷ []) (cell_items boot named (at + 1) after) ≡ true
+          → is_cell (word_operand q.t ∷ word_operand q.x ∷ word_operand q.y ∷ (if b then operand.Following else word_operand q.z) ∷ [])
+          (cell_items boot named (at + 1) after) ≡ true
       by_case true is =
           let parts = followed_parts at q after is in
           let own = rom_parts count q rom in
           let in_range = exact_parts q exact in
           four (is_instr_t (word_operand q.t)) (is_word (word_operand q.x)) (may_go_on (numbered (word_operand q.x)) (word_operand q.y))
           (begins_with_instruction (cell_items boot named (at + 1) after))
-          (instr_operand q.t (is_instruction_cell q parts.0)) (operand_word count few q.x own.1 in_range.1) (goes_as_line q rom exact parts.0)
+          (instr_operand q.t (is_instruction_cell q parts.0)) (operand_word count few q.x own.1 in_range.1)
+          (goes_as_line q rom exact parts.0)
           (begins boot named (at + 1) after parts.2)
       by_case false is =
           let own = rom_parts count q rom in
@@ -132,12 +138,14 @@ module _ (lines : OperationsHaveLines) (count : ℕ) (few : count ≤ 1048560) w
           (operand_word count few q.t own.0 in_range.0) (operand_word count few q.x own.1 in_range.1)
           (operand_word count few q.y own.2 in_range.2) (operand_word count few q.z own.3 in_range.3)
 
-  pub items_are : (boot : W) (named : ℕ → Bool) (at : ℕ) (qs : List Quad) → list_all (is_rom_quad count) qs ≡ true → list_all is_exact_quad qs ≡ true
+  pub items_are : (boot : W) (named : ℕ → Bool) (at : ℕ) (qs : List Quad) → list_all (is_rom_quad count) qs ≡ true
+      → list_all is_exact_quad qs ≡ true
       → are_items (cell_items boot named at qs) ≡ true
   unfolding cell_items
   items_are boot named at [] roms exacts = refl
   items_are boot named at (q ∷ after) roms exacts =
       let rom = and_parts (is_rom_quad count q) (list_all (is_rom_quad count) after) roms in
       let exact = and_parts (is_exact_quad q) (list_all is_exact_quad after) exacts in
-      and_from (is_cell (cell_operands at q after) (cell_items boot named (at + 1) after)) (are_items (cell_items boot named (at + 1) after))
+      and_from (is_cell (cell_operands at q after) (cell_items boot named (at + 1) after))
+      (are_items (cell_items boot named (at + 1) after))
       (cell_is boot named at q after rom.0 exact.0) (items_are boot named (at + 1) after rom.1 exact.1)

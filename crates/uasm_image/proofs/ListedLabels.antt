@@ -27,7 +27,8 @@ module _ (at : ℕ) (item : Item) (items : List Item) (name : Name) where
   behind e = cond-false (has_name item.labels name) (Some at) (label_number (at + 1) items name) e
 
 -- a label that has a number is one
-pub numbered_has : (at : ℕ) (items : List Item) (name : Name) (n : ℕ) → label_number at items name ≡ Some n → has_name (labels_in items) name ≡ true
+pub numbered_has : (at : ℕ) (items : List Item) (name : Name) (n : ℕ) → label_number at items name ≡ Some n
+    → has_name (labels_in items) name ≡ true
 unfolding label_number
 numbered_has at [] name n h = absurd (let e : None ≡ Some n = h in cc)
 numbered_has at (item ∷ items) name n h =
@@ -35,7 +36,8 @@ numbered_has at (item ∷ items) name n h =
     ∙ by_case (has_name item.labels name) refl h (numbered_has (at + 1) items name n)
   where
     by_case : (b : Bool) → has_name item.labels name ≡ b → (if b then Some at else label_number (at + 1) items name) ≡ Some n
-        → (label_number (at + 1) items name ≡ Some n → has_name (labels_in items) name ≡ true) → (b || has_name (labels_in items) name) ≡ true
+        → (label_number (at + 1) items name ≡ Some n → has_name (labels_in items) name ≡ true)
+        → (b || has_name (labels_in items) name) ≡ true
     by_case true e k more = refl
     by_case false e k more = more k
 
@@ -45,7 +47,8 @@ numbered_has at (item ∷ items) name n h =
 abbrev labels : (boot named : Bool) → ℕ → List Name
 labels boot named at = name_if boot boot_name ++ name_if named (cell_label at)
 
-cell_alone : (boot named : Bool) (at k : ℕ) → has_name (labels boot named at) (cell_label k) ≡ (named && bytes_eq (cell_label k) (cell_label at))
+cell_alone : (boot named : Bool) (at k : ℕ) → has_name (labels boot named at) (cell_label k)
+    ≡ (named && bytes_eq (cell_label k) (cell_label at))
 cell_alone true true at k = or_false _
 cell_alone true false at k = refl
 cell_alone false true at k = or_false _
@@ -57,14 +60,18 @@ has_boot true false at = refl
 has_boot false true at = refl
 has_boot false false at = refl
 
-has_cell : (boot named : Bool) (at k : ℕ) → at < 2 ^ 32 → k < 2 ^ 32 → has_name (labels boot named at) (cell_label k) ≡ (named && nat_eq k at)
+has_cell : (boot named : Bool) (at k : ℕ) → at < 2 ^ 32 → k < 2 ^ 32
+    → has_name (labels boot named at) (cell_label k) ≡ (named && nat_eq k at)
 has_cell boot named at k low lower = cell_alone boot named at k ∙ ap (λ b. named && b) (same_label k at lower low)
 
-different_if : (b : Bool) (name : Name) (rest : List Name) → are_different rest ≡ true → (b ≡ true → has_name rest name ≡ false) → are_different (name_if b name ++ rest) ≡ true
-different_if true name rest differ absent = and_from (not (has_name rest name)) (are_different rest) (not_from_false (has_name rest name) (absent refl)) differ
+different_if : (b : Bool) (name : Name) (rest : List Name) → are_different rest ≡ true → (b ≡ true → has_name rest name ≡ false)
+    → are_different (name_if b name ++ rest) ≡ true
+different_if true name rest differ absent = and_from (not (has_name rest name)) (are_different rest)
+    (not_from_false (has_name rest name) (absent refl)) differ
 different_if false name rest differ absent = differ
 
-names_if : (b : Bool) (name : Name) (rest : List Name) → is_name name ≡ true → list_all is_name rest ≡ true → list_all is_name (name_if b name ++ rest) ≡ true
+names_if : (b : Bool) (name : Name) (rest : List Name) → is_name name ≡ true → list_all is_name rest ≡ true
+    → list_all is_name (name_if b name ++ rest) ≡ true
 names_if true name rest named all = and_from (is_name name) (list_all is_name rest) named all
 names_if false name rest named all = all
 
@@ -72,7 +79,8 @@ boot_is_name : is_name boot_name ≡ true
 unfolding is_name
 boot_is_name = refl
 
-behind_boot : (named : Bool) (at : ℕ) (rest : List Name) → has_name (name_if named (cell_label at) ++ rest) boot_name ≡ has_name rest boot_name
+behind_boot : (named : Bool) (at : ℕ) (rest : List Name) → has_name (name_if named (cell_label at) ++ rest) boot_name
+    ≡ has_name rest boot_name
 behind_boot true at rest = refl
 behind_boot false at rest = refl
 
@@ -92,18 +100,21 @@ module _ (boot : W) (named : ℕ → Bool) where
         ∙ ap (λ (n : ℕ). Some n) (sym e)
     | inr n ↦
         behind at (cell_item boot (named at) at q after) _ (cell_label k)
-        (has_cell (same_word boot (Rom at)) (named at) at k (omega arith) (omega arith) ∙ and_right (named at) (nat_eq k at) (ne_eqb k at n))
+        (has_cell (same_word boot (Rom at)) (named at) at k (omega arith) (omega arith)
+        ∙ and_right (named at) (nat_eq k at) (ne_eqb k at n))
         ∙ cell_number (at + 1) after k (omega arith) (let m = n in omega arith) (omega arith) h
   ]
 
   -- no cell behind has the label of one before
-  cell_absent : (at : ℕ) (qs : List Quad) (k : ℕ) → at + length qs ≤ 2 ^ 32 → k < at → has_name (labels_in (cell_items boot named at qs)) (cell_label k) ≡ false
+  cell_absent : (at : ℕ) (qs : List Quad) (k : ℕ) → at + length qs ≤ 2 ^ 32 → k < at
+      → has_name (labels_in (cell_items boot named at qs)) (cell_label k) ≡ false
   unfolding cell_items
   cell_absent at [] k few low = refl
   cell_absent at (q ∷ after) k few low =
       list_any-append (bytes_eq (cell_label k)) (cell_labels boot (named at) at) (labels_in (cell_items boot named (at + 1) after))
       ∙ or_from (has_name (cell_labels boot (named at) at) (cell_label k)) _
-      (has_cell (same_word boot (Rom at)) (named at) at k (omega arith) (omega arith) ∙ and_right (named at) (nat_eq k at) (ne_eqb k at (λ e. omega arith)))
+      (has_cell (same_word boot (Rom at)) (named at) at k (omega arith) (omega arith)
+      ∙ and_right (named at) (nat_eq k at) (ne_eqb k at (λ e. omega arith)))
       (cell_absent (at + 1) after k (omega arith) (omega arith))
 
   module _ (b : ℕ) (is : boot ≡ Rom b) where
@@ -111,15 +122,18 @@ module _ (boot : W) (named : ℕ → Bool) where
     same_boot at = ap (λ w. same_word w (Rom at)) is
 
     -- where the boot cell stands
-    pub boot_number : (at : ℕ) (qs : List Quad) → at ≤ b → b < at + length qs → label_number at (cell_items boot named at qs) boot_name ≡ Some b
+    pub boot_number : (at : ℕ) (qs : List Quad) → at ≤ b → b < at + length qs
+        → label_number at (cell_items boot named at qs) boot_name ≡ Some b
     unfolding cell_items
     boot_number at [] low high = absurd (omega arith)
     boot_number at (q ∷ after) low high = elim (cases_eq b at) [
       | inl e ↦
-          here at (cell_item boot (named at) at q after) _ boot_name (has_boot (same_word boot (Rom at)) (named at) at ∙ same_boot at ∙ eq-eqb b at e)
+          here at (cell_item boot (named at) at q after) _ boot_name
+          (has_boot (same_word boot (Rom at)) (named at) at ∙ same_boot at ∙ eq-eqb b at e)
           ∙ ap (λ (n : ℕ). Some n) (sym e)
       | inr n ↦
-          behind at (cell_item boot (named at) at q after) _ boot_name (has_boot (same_word boot (Rom at)) (named at) at ∙ same_boot at ∙ ne_eqb b at n)
+          behind at (cell_item boot (named at) at q after) _ boot_name
+          (has_boot (same_word boot (Rom at)) (named at) at ∙ same_boot at ∙ ne_eqb b at n)
           ∙ boot_number (at + 1) after (let m = n in omega arith) (omega arith)
     ]
 
@@ -143,7 +157,8 @@ module _ (boot : W) (named : ℕ → Bool) where
         let own = name_if (named at) (cell_label at) in
         ap are_different (append_assoc (name_if (same_word boot (Rom at)) boot_name) own rest)
         ∙ different_if (same_word boot (Rom at)) boot_name (own ++ rest)
-        (different_if (named at) (cell_label at) rest (all_differ (at + 1) after (omega arith)) (λ e. cell_absent (at + 1) after at (omega arith) (omega arith)))
+        (different_if (named at) (cell_label at) rest (all_differ (at + 1) after (omega arith))
+        (λ e. cell_absent (at + 1) after at (omega arith) (omega arith)))
         (λ e. behind_boot (named at) at rest ∙ boot_absent (at + 1) after (is_boot_at at e))
 
   pub all_named : (at : ℕ) (qs : List Quad) → at + length qs ≤ 2 ^ 32 → list_all is_name (labels_in (cell_items boot named at qs)) ≡ true

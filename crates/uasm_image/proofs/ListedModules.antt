@@ -90,13 +90,15 @@ module _ (i : RomImage) (is : IsImage i) where
   -- ---- the rules of modules
 
   known : (name : Name) (n : ℕ) → label_number 16 items name ≡ Some n → has_name (labels_in items ++ []) name ≡ true
-  known name n h = list_any-append (bytes_eq name) (labels_in items) [] ∙ or_left (has_name (labels_in items) name) false (numbered_has 16 items name n h)
+  known name n h = list_any-append (bytes_eq name) (labels_in items) []
+      ∙ or_left (has_name (labels_in items) name) false (numbered_has 16 items name n h)
 
   used : list_all (has_name (labels_in items ++ [])) (used_in items) ≡ true
   used =
       ap (list_all (has_name (labels_in items ++ []))) (used_names i.boot (is_named i) 16 i.cells)
       ∙ names_used (length i.cells) kept.few (has_name (operand_names 16 i.cells)) (has_name (labels_in items ++ []))
-      (λ k low high named. known (cell_label k) k (number_of_cell k low high named)) 16 i.cells kept.cells (all_there (operand_names 16 i.cells))
+      (λ k low high named. known (cell_label k) k (number_of_cell k low high named)) 16 i.cells kept.cells
+      (all_there (operand_names 16 i.cells))
 
   whole : (a b c d e : Bool) → a ≡ true → b ≡ true → c ≡ true → d ≡ true → e ≡ true → (true && a && true && b && true && c && d && e) ≡ true
   whole a b c d e ha hb hc hd he = rw (ha, hb, hc, hd, he) refl
@@ -132,7 +134,8 @@ module _ (i : RomImage) (is : IsImage i) where
   cell_found : (k : ℕ) → 16 ≤ k → k < 16 + length i.cells → is_named i k ≡ true → words (cell_label k) ≡ Rom k
   unfolding words
   cell_found k low high named =
-      ap (λ (found : Option ℕ). Rom (unwrap_or (option_or found (export_number first_number (listing_of i ∷ []) (cell_label k))) 0)) (number_of_cell k low high named)
+      ap (λ (found : Option ℕ). Rom (unwrap_or (option_or found (export_number first_number (listing_of i ∷ []) (cell_label k))) 0))
+      (number_of_cell k low high named)
 
   boot_found : i.boot ≡ Rom (unwrap_or (export_number first_number (listing_of i ∷ []) boot_name) 0)
   unfolding export_number
@@ -142,7 +145,8 @@ module _ (i : RomImage) (is : IsImage i) where
   unfolding linked_modules words
   cells_found =
       sym (append-nil (linked_cells words 16 items)
-      ∙ cells_linked (length i.cells) kept.few (has_name (operand_names 16 i.cells)) words cell_found i.boot (is_named i) 16 i.cells kept.cells (all_there (operand_names 16 i.cells)))
+      ∙ cells_linked (length i.cells) kept.few (has_name (operand_names 16 i.cells)) words cell_found i.boot
+      (is_named i) 16 i.cells kept.cells (all_there (operand_names 16 i.cells)))
 
   pub links_back : Linked (listing_of i ∷ []) i.boot i.cells
   links_back = record { sound = no_fault; boots = boot_found; placed = cells_found }

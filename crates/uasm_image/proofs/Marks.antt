@@ -19,7 +19,8 @@ use Rattle.uasm_image.proofs.ListedCells.{rom_parts, operand_names_cell}
 
 -- ---- one word
 
-pub marked : (xs : List Bool) (m k : ℕ) → 16 ≤ m → m < 16 + length xs → get_or (set xs (m - 16) true) k false ≡ (get_or xs k false || nat_eq m (16 + k))
+pub marked : (xs : List Bool) (m k : ℕ) → 16 ≤ m → m < 16 + length xs
+    → get_or (set xs (m - 16) true) k false ≡ (get_or xs k false || nat_eq m (16 + k))
 marked xs m k low high = elim (cases_eq k (m - 16)) [
   | inl e ↦
       ap (λ n. get_or (set xs (m - 16) true) n false) e ∙ get_or-set_same xs (m - 16) true false (omega arith)
@@ -49,7 +50,8 @@ or_joined false false true c d = refl
 or_joined false false false true d = refl
 or_joined false false false false d = sym (or_false d)
 
-module _ (count : ℕ) (few : count ≤ 1048560) (at : ℕ) (q : Quad) (after : List Quad) (rom : is_rom_quad count q ≡ true) (k : ℕ) (low : 16 + k < 2 ^ 32) where
+module _ (count : ℕ) (few : count ≤ 1048560) (at : ℕ) (q : Quad) (after : List Quad) (rom : is_rom_quad count q ≡ true) (k : ℕ)
+    (low : 16 + k < 2 ^ 32) where
   has : Operand → Bool
   has word = has_name (names_in word) (cell_label (16 + k))
 
@@ -81,12 +83,14 @@ module _ (count : ℕ) (few : count ≤ 1048560) (at : ℕ) (q : Quad) (after : 
 
   -- the marks of all four words
   pub four_marked : (o : Bool) → is_followed at q after ≡ false
-      → ((((o || same_word q.t (Rom (16 + k))) || same_word q.x (Rom (16 + k))) || same_word q.y (Rom (16 + k))) || same_word q.z (Rom (16 + k)))
+      → ((((o || same_word q.t (Rom (16 + k))) || same_word q.x (Rom (16 + k))) || same_word q.y (Rom (16 + k)))
+      || same_word q.z (Rom (16 + k)))
       ≡ (o || has_name (names_of at q after) (cell_label (16 + k)))
   unfolding has names
   four_marked o h =
       or_joined o (names q.t) (names q.x) (names q.y) (names q.z)
-      ∙ ap (λ b. o || b) (sym (cell_named (names q.z) (ap (λ b. has (if b then operand.Following else word_operand q.z)) h ∙ word_named q.z (rom_parts count q rom).3)))
+      ∙ ap (λ b. o || b) (sym (cell_named (names q.z) (ap (λ b. has (if b then operand.Following else word_operand q.z)) h
+      ∙ word_named q.z (rom_parts count q rom).3)))
 
   -- the marks of three words, where the cell goes on at the next one
   pub three_marked : (o : Bool) → is_followed at q after ≡ true
@@ -118,9 +122,11 @@ marks_on at rest after q split name old new total is so_far =
     ∙ ap (λ b. old || b) (sym (list_any-append test (names_of at q after) (operand_names (at + 1) after)))
     ∙ sym (ap (λ qs. old || has_name (operand_names at qs) name) split) ∙ so_far
 
-pub marks_done : (at : ℕ) (rest : List Quad) → rest ≡ [] → (name : Name) (old total : Bool) → (old || has_name (operand_names at rest) name) ≡ total → old ≡ total
+pub marks_done : (at : ℕ) (rest : List Quad) → rest ≡ [] → (name : Name) (old total : Bool)
+    → (old || has_name (operand_names at rest) name) ≡ total → old ≡ total
 unfolding operand_names
-marks_done at rest none name old total so_far = sym (or_false old) ∙ sym (ap (λ qs. old || has_name (operand_names at qs) name) none) ∙ so_far
+marks_done at rest none name old total so_far = sym (or_false old) ∙ sym (ap (λ qs. old || has_name (operand_names at qs) name) none)
+    ∙ so_far
 
 -- ---- items one after the other
 
@@ -134,9 +140,11 @@ unfolding cell_items
 no_items boot named at rest none = ap (cell_items boot named at) none
 
 -- the items are the same where the marks are
-pub items_same : (boot : W) (f g : ℕ → Bool) (at : ℕ) (qs : List Quad) → ((k : ℕ) → at ≤ k → k < at + length qs → f k ≡ g k) → cell_items boot f at qs ≡ cell_items boot g at qs
+pub items_same : (boot : W) (f g : ℕ → Bool) (at : ℕ) (qs : List Quad) → ((k : ℕ) → at ≤ k → k < at + length qs → f k ≡ g k)
+    → cell_items boot f at qs ≡ cell_items boot g at qs
 unfolding cell_items
 items_same boot f g at [] same = refl
 items_same boot f g at (q ∷ after) same =
     ap (λ b. cell_item boot b at q after ∷ cell_items boot f (at + 1) after) (same at (omega arith) (omega arith))
-    ∙ ap (λ rest. cell_item boot (g at) at q after ∷ rest) (items_same boot f g (at + 1) after (λ k low high. same k (omega arith) (omega arith)))
+    ∙ ap (λ rest. cell_item boot (g at) at q after ∷ rest) (items_same boot f g (at + 1) after
+    (λ k low high. same k (omega arith) (omega arith)))

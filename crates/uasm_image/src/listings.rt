@@ -1,8 +1,7 @@
 //! From an image to the module of assembly that it is listed as.
 
-ghost use Rattle.std.specs.Prelude.{◌≡◌, ◌≤◌, ◌<◌, ◌+◌, ◌-◌, ◌^◌, ◌||◌, ◌∷◌, ◌++◌, [], ℕ, IsTrue, length, slice_index_or, false, IfOk, OnOk};
+ghost use Rattle.std.specs.Prelude.{◌≡◌, ◌≤◌, ◌<◌, ◌+◌, ◌-◌, ◌^◌, ◌||◌, ◌∷◌, [], ℕ, IsTrue, length, slice_index_or, false, IfOk};
 ghost use Rattle.std.specs.List.{list_all};
-ghost use Rattle.cap_words.specs.Text.{is_name};
 ghost use Rattle.cap_words.specs.Words.{Rom, same_word};
 ghost use Rattle.quad_memory.specs.Image.{is_rom_word, is_rom_quad};
 ghost use Rattle.uasm_read.specs.Texts.{has_name};
@@ -221,7 +220,7 @@ pub fn listing(alloc: Global, image: &Image) -> Result<Module, NoMemory>
     ensures links { IfOk result (λ m. Linked (m ∷ []) image.now.boot image.now.cells) }
     ensures image { IfOk result (λ _. IsImage image.now) }
 {
-    // What makes it a module: where a cell is followed, its line may be.
+    // The law that makes the parts a module.
     listings_are_modules();
     let cells = image.cells();
     let named = named_cells(alloc, cells)?;

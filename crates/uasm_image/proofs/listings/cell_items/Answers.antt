@@ -18,7 +18,8 @@ loop-rest-preserved c =
     let split = front_item rest q c.in-len1-up.len_at_least c.cell-item.is in
     record {
       made = rw (c.in_ok-push.ensures.items, c.in_ok-cell_item.ensures, append_assoc)
-          (ap (λ items. c.loop-rest.items.items ++ items) (sym (items_front c.args.boot marks at rest (behind rest) q split)) ∙ c.loop-rest.invariant.made);
+          (ap (λ items. c.loop-rest.items.items ++ items) (sym (items_front c.args.boot marks at rest (behind rest) q split))
+          ∙ c.loop-rest.invariant.made);
       from = omega (arith, c.loop-rest.invariant.from);
       place = omega (arith, length-behind rest c.in-len1-up.len_at_least, c.loop-rest.invariant.place);
     }
@@ -27,5 +28,6 @@ pub returns : goal.returns
 returns c =
     let marks = λ (at : ℕ). get_or c.args.named.now (at - 16) false in
     sym (append-nil c.loop-rest.items.items)
-    ∙ ap (λ items. c.loop-rest.items.items ++ items) (sym (no_items c.args.boot marks c.loop-rest.at c.loop-rest.rest.now (no_item c.loop-rest.rest.now c.in_default.len_below)))
+    ∙ ap (λ items. c.loop-rest.items.items ++ items) (sym (no_items c.args.boot marks c.loop-rest.at c.loop-rest.rest.now
+    (no_item c.loop-rest.rest.now c.in_default.len_below)))
     ∙ c.loop-rest.invariant.made

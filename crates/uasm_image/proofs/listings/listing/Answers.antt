@@ -20,12 +20,14 @@ image_is c =
       exact = subst (λ (qs : List Quad). list_all is_exact_quad qs ≡ true) c.cells-cells.ensures.value c.in_ok-named.ensures.exact;
     }
 
-module_is : (c : After-from_vec-3) → record { imports = c.from_vec.result; exports = c.from_vec-2.result; items = c.from_vec-3.result } ≡ listing_of c.args.image.now
+module_is : (c : After-from_vec-3) → record { imports = c.from_vec.result; exports = c.from_vec-2.result; items = c.from_vec-3.result }
+    ≡ listing_of c.args.image.now
 module_is c =
     let i = c.args.image.now in
     made_module i c.from_vec.result c.from_vec-2.result c.from_vec-3.result
     (c.from_vec.ensures ∙ c.new.ensures.items)
-    (c.from_vec-2.ensures ∙ c.in_ok-push.ensures.items ∙ ap (λ (names : List Name). names ++ c.in_ok-boot_label.field-0 ∷ []) c.new-exports.ensures.items
+    (c.from_vec-2.ensures ∙ c.in_ok-push.ensures.items ∙ ap (λ (names : List Name). names
+    ++ c.in_ok-boot_label.field-0 ∷ []) c.new-exports.ensures.items
     ∙ ap (λ (name : Name). name ∷ []) c.in_ok-boot_label.ensures)
     (c.from_vec-3.ensures ∙ c.in_ok-items.ensures
     ∙ made_items i c.boot.result c.cells-cells.result.now c.deref.result.now c.boot.ensures.value c.cells-cells.ensures.value
@@ -40,4 +42,5 @@ returns-clause-value c = c.from_parts.ensures ∙ module_is (goal.at.returns-cla
 pub returns-clause-links : goal.returns-clause-links
 returns-clause-links c =
     let made = (goal.at.returns-clause-links c).After-from_vec-3 in
-    subst (λ m. Linked (m ∷ []) c.args.image.now.boot c.args.image.now.cells) (sym (c.from_parts.ensures ∙ module_is made)) (links_back c.args.image.now (image_is made))
+    subst (λ m. Linked (m ∷ []) c.args.image.now.boot c.args.image.now.cells) (sym (c.from_parts.ensures ∙ module_is made))
+    (links_back c.args.image.now (image_is made))

@@ -14,12 +14,14 @@ pub returns-then-not-is_followed : goal.returns-then-not-is_followed
 returns-then-not-is_followed c = λ k below.
     let count = length c.args.named.now in
     rw (c.mark-then-not-is_followed.ensures k, c.mark-3.ensures k, c.mark-2.ensures k, c.mark.ensures k)
-    (four_marked count c.requires.few c.args.at c.args.cell.now c.args.after.now c.requires.within k (omega (arith, c.requires.few, below)) (get_or c.args.named.now k false)
+    (four_marked count c.requires.few c.args.at c.args.cell.now c.args.after.now c.requires.within k
+    (omega (arith, c.requires.few, below)) (get_or c.args.named.now k false)
     (sym c.is_followed.ensures ∙ c.if-not-is_followed.true))
 
 pub returns-else-not-is_followed : goal.returns-else-not-is_followed
 returns-else-not-is_followed c = λ k below.
     let count = length c.args.named.now in
     rw (c.mark-3.ensures k, c.mark-2.ensures k, c.mark.ensures k)
-    (three_marked count c.requires.few c.args.at c.args.cell.now c.args.after.now c.requires.within k (omega (arith, c.requires.few, below)) (get_or c.args.named.now k false)
+    (three_marked count c.requires.few c.args.at c.args.cell.now c.args.after.now c.requires.within k
+    (omega (arith, c.requires.few, below)) (get_or c.args.named.now k false)
     (sym c.is_followed.ensures ∙ c.if-not-is_followed.false))

@@ -11,7 +11,8 @@ abbrev pub invariant-loop-rest : goal.invariant-loop-rest
 invariant-loop-rest l = record {
   count : length l.named.items ≡ length l.cells;
   marks : (k : ℕ) → k < length l.cells
-      → (get_or l.named.items k false || has_name (operand_names l.at l.rest) (cell_label (16 + k))) ≡ has_name (operand_names 16 l.cells) (cell_label (16 + k));
+      → (get_or l.named.items k false || has_name (operand_names l.at l.rest) (cell_label (16 + k)))
+      ≡ has_name (operand_names 16 l.cells) (cell_label (16 + k));
   place : l.at + length l.rest ≡ 16 + length l.cells;
   roms : IsTrue (list_all (is_rom_quad (length l.cells)) l.rest);
   exact : IsTrue (list_all is_exact_quad l.rest) → IsTrue (list_all is_exact_quad l.cells);
