@@ -11,7 +11,7 @@ use Rattle.hum_command.specs.Link.{LinkTo}
 use Rattle.hum_command.specs.Call.{Call, Declines, PutsAll}
 use Rattle.hum_command.specs.TextRefusals.{TextFails, StartFails}
 use Rattle.hum_command.specs.RunAnswers.{RunsFile, FileAnswers}
-use Rattle.hum_command.specs.Code.{is_assembled, HoldsCode, listing_text, CodeFails}
+use Rattle.hum_command.specs.Code.{is_assembled, HoldsCode, IsListing, CodeFails}
 use Rattle.hum_command.specs.AsmAnswers.{AsmAnswers}
 use Rattle.hum_command.specs.DebugAnswers.{Debugs, DebugFails, DebugAnswers}
 use Rattle.hum_command.specs.LinkAnswers.{LinkAnswers}
@@ -50,11 +50,13 @@ module _ (name : List ℕ) (c : Call) where
   declined_asm false is (TextRefused why) fails d = (is, record { text = fails.0; is_text = fails.1; refused = fails.2 }, d)
   declined_asm false is answer fails d = absurd fails
 
-  module _ (bytes : List ℕ) (text : IsText (told c.files name) bytes) (image : RomImage) (holds : HoldsCode (is_assembled name) bytes image)
-      (silent : Silent c.err) (last : c.last_new ≡ c.last_old) where
-    pub listed : (answer : Answer) → PutsAll answer c.out (listing_text image) → AsmAnswers name answer c
-    listed Done puts = record { bytes = bytes; text = text; image = image; holds = holds; out = puts; silent = silent; last = last }
-    listed Fault puts = record { bytes = bytes; text = text; image = image; holds = holds; out = puts; silent = silent; last = last }
+  module _ (bytes : List ℕ) (read : IsText (told c.files name) bytes) (image : RomImage) (holds : HoldsCode (is_assembled name) bytes image)
+      (text : List ℕ) (listing : IsListing image text) (silent : Silent c.err) (last : c.last_new ≡ c.last_old) where
+    pub listed : (answer : Answer) → PutsAll answer c.out text → AsmAnswers name answer c
+    listed Done puts =
+        record { bytes = bytes; read = read; image = image; holds = holds; text = text; listing = listing; out = puts; silent = silent; last = last }
+    listed Fault puts =
+        record { bytes = bytes; read = read; image = image; holds = holds; text = text; listing = listing; out = puts; silent = silent; last = last }
     listed answer puts = absurd puts
 
 module _ (names : List (List ℕ)) (c : Call) where

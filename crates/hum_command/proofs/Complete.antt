@@ -156,7 +156,7 @@ module _ (name bytes : List ℕ) (c : Call) (is : told c.files name ≡ Some (So
 
   listed_code : (Writing : Writes → List ℕ → Type 0) (assembled : Bool) → is_assembled name ≡ assembled → (l : ListsFile name Writing c) → HoldsCode assembled bytes l.image
   listed_code Writing assembled by l = subst (λ (x : Bool). HoldsCode x bytes l.image) by
-      (told_of (told c.files name) bytes is (λ bs. HoldsCode (is_assembled name) bs l.image) l.bytes l.text l.holds)
+      (told_of (told c.files name) bytes is (λ bs. HoldsCode (is_assembled name) bs l.image) l.bytes l.read l.holds)
 
   module _ (why : StartError) (by : is_assembled name ≡ false) (refusal : IsRefusal bytes why) where
     lists_no_text : (Writing : Writes → List ℕ → Type 0) → ListsFile name Writing c → ⊥

@@ -7,7 +7,7 @@ use Rattle.hum_front.specs.declared.error.StartError.{StartError}
 use Rattle.hum_command.specs.Writes.{Writes, Wrote, WroteFront, Silent, Faultless}
 use Rattle.hum_command.specs.Texts.{IsText, Unreadable}
 use Rattle.hum_command.specs.Images.{Unloaded}
-use Rattle.hum_command.specs.Code.{is_assembled, HoldsCode, listing_text}
+use Rattle.hum_command.specs.Code.{is_assembled, HoldsCode, IsListing}
 use Rattle.hum_command.specs.Call.{Call, Declines, Reads}
 use Rattle.hum_command.specs.RunAnswers.{RefusesFileText}
 use Rattle.hum_command.specs.ExecAnswers.{RefusesFile}
@@ -18,10 +18,12 @@ use Rattle.hum_command.specs.declared.answer.Answer.TheVariants.{Done, Unread, F
 -- the file holds the code of an image, and of the text of its listing this was written to out; nothing else was, and the record is as it was
 pub record ListsFile (name : List ℕ) (Writing : Writes → List ℕ → Type 0) (c : Call) : Type 0 where
   pub bytes : List ℕ
-  pub text : IsText (told c.files name) bytes
+  pub read : IsText (told c.files name) bytes
   pub image : RomImage
   pub holds : HoldsCode (is_assembled name) bytes image
-  pub out : Writing c.out (listing_text image)
+  pub text : List ℕ
+  pub listing : IsListing image text
+  pub out : Writing c.out text
   pub silent : Silent c.err
   pub last : c.last_new ≡ c.last_old
 

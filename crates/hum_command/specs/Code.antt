@@ -1,8 +1,10 @@
 -- The code that the file of `asm` holds, and how it is listed.
-use Rattle.std.specs.Prelude.{◌≡◌, ℕ, nat_eq, Bool, true, false, ◌||◌, List, codes, Option}
+use Rattle.std.specs.Prelude.{◌≡◌, ℕ, nat_eq, Bool, true, false, ◌||◌, List, [], ◌∷◌, codes, Option, None}
 use Rattle.std.specs.List.{ends_with}
 use Rattle.quad_memory.specs.Image.{RomImage}
+use Rattle.uasm_read.specs.Assembles.{Assembles}
 use Rattle.uasm_read.specs.Writes.{written}
+use Rattle.uasm_read.specs.Links.{Linked}
 use Rattle.uasm_image.specs.Listed.{listing_of}
 use Rattle.hum_syntax.specs.declared.Tree.{Tree}
 use Rattle.hum_core.specs.declared.tested.TestUnit.{TestUnit}
@@ -28,15 +30,17 @@ abbrev pub HoldsCode : Bool → List ℕ → RomImage → Type 0
 HoldsCode true bytes image = Loads bytes image
 HoldsCode false bytes image = Compiles bytes image
 
--- the text of the image's listing
-abbrev pub listing_text : RomImage → List ℕ
-listing_text image = written (listing_of image)
+-- The text is that of the image's listing: a module, which links to the image.
+pub record IsListing (image : RomImage) (text : List ℕ) : Type 0 where
+  pub is : text ≡ written (listing_of image)
+  pub assembles : Assembles None text (listing_of image)
+  pub links : Linked (listing_of image ∷ []) image.boot image.cells
 
 -- ---- what the parts of `asm` answer
 
 -- the text is that of the listing of the code in these bytes
 abbrev pub ListsCode : Bool → List ℕ → List ℕ → Type 0
-ListsCode assembled bytes text = (image : RomImage) × HoldsCode assembled bytes image × (text ≡ listing_text image)
+ListsCode assembled bytes text = (image : RomImage) × HoldsCode assembled bytes image × IsListing image text
 
 -- why there is no code of a file
 abbrev pub CodeFails : Bool → ℕ → ℕ → Option (Option (List ℕ)) → Answer → Type 0

@@ -27,7 +27,7 @@ fn is_assembled(name: &str) -> bool
 
 // The text of the listing of an image.
 fn listing_text(alloc: Global, image: &Image) -> Result<Vec<u8>, AllocError>
-    ensures { IfOk result (λ text. text.items ≡ spec.listing_text image.now) }
+    ensures { IfOk result (λ text. spec.IsListing image.now text.items) }
 {
     let module = listing(alloc, image)?;
     write_module(alloc, &module)

@@ -1,4 +1,4 @@
-use Rattle.std.proofs.Common.{◌∙◌, refl, subst, ℕ, List}
+use Rattle.std.proofs.Common.{refl, subst, ℕ, List}
 use Rattle.hum_command.specs.Call.{call, PutsAll}
 use Rattle.hum_command.specs.Writes.{writes}
 use Rattle.hum_command.specs.Code.{is_assembled}
@@ -22,5 +22,5 @@ returns-in-Ok-clause-answered g c = λ last.
     let code = c.in-Ok.ensures.listing in
     listed a.name.now
     (call g.F.Folder.files g.F.Folder.faults w g.K.Sink.faults a.files.now c.list_file.new.files a.out.now put.new.out a.err.now a.err.now last last)
-    code.0 code.1 code.2 code.3 (refl {a = w a.err.now}) (refl {a = last}) put.result
-    (subst (λ (bytes : List ℕ). PutsAll put.result (writes w g.K.Sink.faults a.out.now put.new.out) bytes) (c.deref.ensures.value ∙ code.4) put.ensures.answered)
+    code.0 code.1 code.2 code.3 c.in-Ok.listing.items code.4 (refl {a = w a.err.now}) (refl {a = last}) put.result
+    (subst (λ (bytes : List ℕ). PutsAll put.result (writes w g.K.Sink.faults a.out.now put.new.out) bytes) c.deref.ensures.value put.ensures.answered)
