@@ -13,7 +13,7 @@ use crate::command::{Command, Place};
 use crate::lines::{put_cell, put_events, put_queue, put_turns};
 use crate::rest::put_ending;
 use crate::sheet::put_sheet;
-use crate::wait::{Wait, is_begun, is_over};
+use crate::wait::{Wait, entries_from, is_begun, is_over};
 use cap_words::Quad;
 use circular_buffer::HeapCircularBuffer;
 use hum_outside::{Failed, Sink};
@@ -58,9 +58,10 @@ fn put_last<K: Sink>(
     let (earlier, later) = entries.as_slices();
     let left_out = (earlier.len() + later.len()).saturating_sub(count as usize);
     if left_out > earlier.len() {
-        return put_events(out, &later[left_out - earlier.len()..]);
+        let last = entries_from(later, left_out - earlier.len());
+        return put_events(out, last);
     }
-    put_events(out, &earlier[left_out..])?;
+    put_events(out, entries_from(earlier, left_out))?;
     put_events(out, later)
 }
 
@@ -132,7 +133,8 @@ impl Debug {
         let turns = self.machine.turns();
         let ended = self.machine.journal().len();
         let _answer = self.machine.turn(out)?;
-        self.entries.extend_from_slice(&self.machine.journal()[ended..]);
+        let added = entries_from(self.machine.journal(), ended);
+        self.entries.extend_from_slice(added);
         Ok(self.machine.turns() > turns)
     }
 
@@ -142,7 +144,8 @@ impl Debug {
         ensures breaks { OnErr result (parts.BreaksSteps count self.old self.new (K.written out.old) (K.written out.new)) }
         ensures cause { HasCause (K.faults out.old) (K.faults out.new) result }
     {
-        for _ in 0..count {
+        let _turns = self.machine().turns();
+        'turns: for _taken in 0..count {
             if !self.turn(out)? {
                 return Ok(());
             }
@@ -158,6 +161,7 @@ impl Debug {
         ensures breaks { OnErr result (parts.BreaksWalk wait self.old self.new (K.written out.old) (K.written out.new)) }
         ensures cause { HasCause (K.faults out.old) (K.faults out.new) result }
     {
+        let _turns = self.machine().turns();
         let mut over = is_over(wait, self.machine().journal(), 0);
         'turns: loop {
             if over || is_begun(wait, self.machine()) {
@@ -167,8 +171,9 @@ impl Debug {
             if !self.turn(out)? {
                 return Ok(false);
             }
+            let _turns = self.machine().turns();
             let journal = self.machine().journal();
-            put_events(out, &journal[ended..])?;
+            put_events(out, entries_from(journal, ended))?;
             over = is_over(wait, journal, ended);
         }
     }
