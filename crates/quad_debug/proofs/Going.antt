@@ -1,5 +1,5 @@
 -- What turns of a command have written so far, and what is left where a write fails.
-use Rattle.std.proofs.Common.{◌≡◌, ℕ, zero, suc, ◌+◌, ◌<◌, ◌≤◌, List, [], ◌∷◌, ◌++◌, length, take, Option, Some, None, Bool, true, false, refl, sym, ap, ◌∙◌, subst, ⊎_elim, arith, append-nil, append_assoc, length-append}
+use Rattle.std.proofs.Common.{◌≡◌, ℕ, zero, suc, ◌+◌, ◌-◌, ◌*◌, ◌<◌, ◌≤◌, List, [], ◌∷◌, ◌++◌, length, take, drop, Option, Some, None, Bool, true, false, refl, sym, ap, ◌∙◌, subst, ⊎_elim, arith, append-nil, append_assoc, length-append}
 use Rattle.std.specs.Prelude.{not, ◌||◌}
 use Rattle.std.proofs.Math.Nat.{eq-or-lt_of_le}
 use Rattle.std.proofs.lemmas.List.{take-append-le}
@@ -9,9 +9,16 @@ use Rattle.hum_outside.proofs.Fronts.{all_after}
 use Rattle.vm_machine.specs.Machine.{Machine}
 use Rattle.uasm_read.specs.Texts.{Bytes}
 use Rattle.quad_debug.specs.Kept.{Debugged}
-use Rattle.quad_debug.specs.Obeys.{goes_on, piece_at, written_by, TakesTurns, IsAfter, whole, Took, Broke}
-use Rattle.quad_debug.specs.Parts.{no_text}
-use Rattle.quad_debug.proofs.Runs.{IsRun, after-none, after-then, before-none, before-more, Ends, ends}
+use Rattle.vm_turn.specs.State.{State}
+use Rattle.vm_turn.specs.Turn.{turn}
+use Rattle.vm_turn.specs.Run.{completes}
+use Rattle.vm_turn.specs.declared.journal.Entry.{Entry}
+use Rattle.quad_debug.specs.Texts.{event_lines}
+use Rattle.quad_debug.specs.declared.wait.Wait.{Wait}
+use Rattle.quad_debug.specs.declared.wait.Wait.TheVariants.{Entries, Message as ForMessage}
+use Rattle.quad_debug.specs.Obeys.{goes_on, piece_at, entries_at, told_at, written_by, is_met, is_over, is_begun, stands_in, met_at, TakesTurns, IsAfter, whole, Took, Broke}
+use Rattle.quad_debug.specs.Parts.{no_text, if_more, TookTurn, BrokeTurn}
+use Rattle.quad_debug.proofs.Runs.{IsRun, after-none, after-then, same-turn, before-none, before-more, Ends, ends}
 
 -- ---- fronts of what is written
 
@@ -263,3 +270,119 @@ broke-none enough text last d out_old out_new run_is e front =
       wrote = λ i lt. absurd (omega (arith, lt));
       no_more = λ lt. absurd (omega (arith, lt));
     }
+
+-- ---- turns of a debugger
+
+module _ (enough : ℕ → Bool) (text : ℕ → Bytes) (old now : Debugged) (out_old out_now : Option Bytes) (g : Goes enough text old now out_old out_now) where
+  was-on : goes_on now.machine now.machine.turns ≡ goes_on old.machine (old.machine.turns + g.turns)
+  was-on = same-turn old.machine now.machine g.turns g.machine completes now.machine.turns ∙ ap (goes_on old.machine) g.machine.turns_are
+
+  was-piece : piece_at now.machine now.machine.turns ≡ piece_at old.machine (old.machine.turns + g.turns)
+  was-piece = same-turn old.machine now.machine g.turns g.machine (λ (s : State) (p : ℕ). (turn s p).0.output) now.machine.turns ∙ ap (piece_at old.machine) g.machine.turns_are
+
+  was-entries : entries_at now.machine now.machine.turns ≡ entries_at old.machine (old.machine.turns + g.turns)
+  was-entries = same-turn old.machine now.machine g.turns g.machine (λ (s : State) (p : ℕ). drop (length s.journal) (turn s p).0.journal) now.machine.turns ∙ ap (entries_at old.machine) g.machine.turns_are
+
+  -- what holds of the machine's state holds of that of the run
+  pub met-now : (wait : Wait) (b : Bool) → is_met wait now.machine.state ≡ b → met_at old.machine wait g.turns ≡ b
+  met-now wait b h = ap (is_met wait) (sym g.machine.state) ∙ h
+
+  module _ (next : Debugged) (out_next : Option Bytes) where
+    -- a turn was taken, and its device's bytes are all that it writes
+    pub goes-silent : text (old.machine.turns + g.turns) ≡ piece_at old.machine (old.machine.turns + g.turns) → enough g.turns ≡ false → TookTurn now next out_now out_next true → Goes enough text old next out_old out_next
+    goes-silent is none t =
+        goes-more enough text old now next out_old out_now out_next g none (sym was-on ∙ t.was) t.machine t.began
+        (t.out ∙ ap (appended out_now) (was-piece ∙ sym is))
+
+    -- there was none
+    pub goes-still : TookTurn now next out_now out_next false → Goes enough text old next out_old out_next
+    goes-still t =
+        let none : g.turns + 0 ≡ g.turns = omega arith in
+        record {
+          turns = g.turns;
+          before = g.before;
+          machine = subst (IsAfter old.machine next.machine) none (after-then old.machine now.machine g.turns g.machine next.machine 0 t.machine);
+          began = t.began ∙ g.began;
+          out = t.out ∙ sym (appended-none out_now) ∙ g.out;
+        }
+
+    -- so they were all
+    pub took-all : TookTurn now next out_now out_next false → Took enough text no_text old next out_old out_next
+    unfolding goes-still
+    took-all t =
+        goes-ends enough text old next out_old out_next (goes-still t)
+        (ap (λ (b : Bool). enough g.turns || not b) (sym was-on ∙ t.was) ∙ or-true (enough g.turns))
+      where
+        or-true : (b : Bool) → (b || true) ≡ true
+        or-true true = refl
+        or-true false = refl
+
+    -- a turn was taken, and the lines of its entries were written
+    pub goes-told : (out_lines : Option Bytes) (lines : List Entry) → text (old.machine.turns + g.turns) ≡ told_at old.machine (old.machine.turns + g.turns) → enough g.turns ≡ false
+        → TookTurn now next out_now out_next true → lines ≡ entries_at now.machine now.machine.turns → out_lines ≡ appended out_next (event_lines lines) → Goes enough text old next out_old out_lines
+    goes-told out_lines lines is none t added written =
+        let n = old.machine.turns + g.turns in
+        let piece : out_next ≡ appended out_now (piece_at old.machine n) = t.out ∙ ap (appended out_now) was-piece in
+        let more : out_lines ≡ appended out_next (event_lines (entries_at old.machine n)) = written ∙ ap (λ (es : List Entry). appended out_next (event_lines es)) (added ∙ was-entries) in
+        goes-more enough text old now next out_old out_now out_lines g none (sym was-on ∙ t.was) t.machine t.began
+        (all_after out_now out_next out_lines (piece_at old.machine n) (event_lines (entries_at old.machine n)) piece more ∙ ap (appended out_now) (sym is))
+
+    -- the device could not write
+    pub device-breaks : (last : ℕ → Bytes) → Holds old.machine text → enough g.turns ≡ false → BrokeTurn now next out_now out_next → Broke enough text last old next out_old out_next
+    device-breaks last holds none b =
+        subst (λ (d : Debugged). Broke enough text last old d out_old out_next) (sym b.same)
+        (broke-device enough text last old now out_old out_now holds g out_next none (sym was-on ∙ b.was) (subst (AppendsFront out_now out_next) was-piece b.out))
+
+    -- a line could not be written
+    pub line-breaks : (last : ℕ → Bytes) (out_bad : Option Bytes) (lines : List Entry) → Holds old.machine text → text (old.machine.turns + g.turns) ≡ told_at old.machine (old.machine.turns + g.turns) → enough g.turns ≡ false
+        → TookTurn now next out_now out_next true → lines ≡ entries_at now.machine now.machine.turns → AppendsFront out_next out_bad (event_lines lines) → Broke enough text last old next out_old out_bad
+    line-breaks last out_bad lines holds is none t added front =
+        let n = old.machine.turns + g.turns in
+        broke-line enough text last old now out_old out_now holds g next out_next out_bad (event_lines (entries_at old.machine n)) none (sym was-on ∙ t.was) t.machine t.began
+        (t.out ∙ ap (appended out_now) was-piece) is (subst (λ (es : List Entry). AppendsFront out_next out_bad (event_lines es)) (added ∙ was-entries) front)
+
+-- turns that are counted
+pub counted-none : (enough : ℕ → Bool) (text : ℕ → Bytes) (d : Debugged) (out : Option Bytes) → IsRun d.machine → GoesFor 0 enough text d d out out
+unfolding goes-none
+counted-none enough text d out run_is = record { goes = goes-none enough text d out run_is; counted = refl }
+
+pub counted-more : (k : ℕ) (enough : ℕ → Bool) (old now next : Debugged) (out_old out_now out_next : Option Bytes) → (f : GoesFor k enough (piece_at old.machine) old now out_old out_now) → enough f.goes.turns ≡ false
+    → TookTurn now next out_now out_next true → GoesFor (k + 1) enough (piece_at old.machine) old next out_old out_next
+unfolding goes-silent goes-more
+counted-more k enough old now next out_old out_now out_next f none took =
+    let e : suc f.goes.turns ≡ k + 1 = omega (arith, f.counted) in
+    record { goes = goes-silent enough (piece_at old.machine) old now out_old out_now f.goes next out_next refl none took; counted = e }
+
+-- ---- what is waited for
+
+pub not-met : (wait : Wait) (s : State) → is_over wait s.journal ≡ false → is_begun wait s.flight ≡ false → is_met wait s ≡ false
+not-met wait s o b = ap (λ (x : Bool). x || is_begun wait s.flight) o ∙ b
+
+pub over-met : (wait : Wait) (s : State) → is_over wait s.journal ≡ true → is_met wait s ≡ true
+over-met wait s o = ap (λ (x : Bool). x || is_begun wait s.flight) o
+
+pub begun-met : (wait : Wait) (s : State) → is_over wait s.journal ≡ false → is_begun wait s.flight ≡ true → is_met wait s ≡ true
+begun-met wait s o b = ap (λ (x : Bool). x || is_begun wait s.flight) o ∙ b
+
+pub stands-none : (wait : Wait) → stands_in wait [] ≡ false
+stands-none (Entries count) = refl
+stands-none (ForMessage message) = refl
+
+pub over-stands : (wait : Wait) (journal : List Entry) → is_over wait journal ≡ false → stands_in wait journal ≡ false
+over-stands (Entries count) journal h = refl
+over-stands (ForMessage message) journal h = h
+
+-- each turn's text begins with what its device writes
+pub silent-holds : (m : Machine) → Holds m (piece_at m)
+silent-holds m n = begins-same (piece_at m n)
+
+pub told-holds : (m : Machine) → Holds m (told_at m)
+told-holds m n = begins-with (piece_at m n) (event_lines (entries_at m n))
+
+-- turns come to an end
+pub turns-fewer : (a b : Machine) → IsAfter a b 1 → b.turns ≤ b.grant.cycles + 2 * (b.grant.events + 1) → b.grant.cycles + 2 * (b.grant.events + 1) - b.turns < a.grant.cycles + 2 * (a.grant.events + 1) - a.turns
+turns-fewer a b x top =
+    let c : b.grant.cycles ≡ a.grant.cycles = ap (λ g. g.cycles) x.grant in
+    let e : b.grant.events ≡ a.grant.events = ap (λ g. g.events) x.grant in
+    let t = x.turns_are in
+    omega (arith, top, c, e, t)

@@ -7,6 +7,7 @@ mod AtRest
 mod Runs
 mod Going
 mod Turned
+mod Counting
 mod Keeping
 mod Rows
 mod Queues

@@ -1,7 +1,8 @@
 -- One turn of a debugger's machine.
-use Rattle.std.proofs.Common.{◌≡◌, ℕ, suc, ◌+◌, ◌<◌, ◌≤◌, List, [], ◌∷◌, ◌++◌, length, drop, Option, Result, Ok, Err, Bool, true, false, if◌then◌else◌, nat_lt, refl, sym, ap, ◌∙◌, subst, arith, append-nil, length-append}
+use Rattle.std.proofs.Common.{◌≡◌, ℕ, suc, ◌+◌, ◌<◌, ◌≤◌, List, [], ◌∷◌, ◌++◌, length, take, drop, Option, Result, Ok, Err, Bool, true, false, if◌then◌else◌, nat_lt, refl, sym, ap, ◌∙◌, subst, arith, append-nil, length-append}
 use Rattle.std.specs.Prelude.{IsOk}
 use Rattle.std.proofs.lemmas.Bool.Decides.{nat_tests}
+use Rattle.std.proofs.lemmas.List.{take-append-le}
 use Rattle.hum_outside.specs.Outside.{AppendsFront, appended}
 use Rattle.vm_devices.specs.declared.delivery.WriteFault.{WriteFault}
 use Rattle.vm_turn.specs.declared.journal.Entry.{Entry}
@@ -124,3 +125,17 @@ grows old new out_old out_new more t =
     let n = ap length t.journal in
     let l = length-append old.machine.state.journal (if_more more (entries_at old.machine old.machine.turns)) in
     omega (arith, n, l)
+
+-- what stands behind is what the turn adds
+pub added-entries : (old new : Debugged) (out_old out_new : Option Bytes) → TookTurn old new out_old out_new true → drop (length old.machine.state.journal) new.machine.state.journal ≡ entries_at old.machine old.machine.turns
+added-entries old new out_old out_new t = ap (drop (length old.machine.state.journal)) t.journal ∙ drop-front old.machine.state.journal (entries_at old.machine old.machine.turns)
+
+take_all : (xs : List Entry) → take (length xs) xs ≡ xs
+take_all [] = refl
+take_all (x ∷ xs) = ap (λ (ys : List Entry). x ∷ ys) (take_all xs)
+
+-- what stands in front is what was there
+pub front-journal : (old new : Debugged) (out_old out_new : Option Bytes) (more : Bool) → TookTurn old new out_old out_new more → take (length old.machine.state.journal) new.machine.state.journal ≡ old.machine.state.journal
+front-journal old new out_old out_new more t =
+    let before = old.machine.state.journal in
+    ap (take (length before)) t.journal ∙ take-append-le (length before) before (if_more more (entries_at old.machine old.machine.turns)) (omega arith) ∙ take_all before

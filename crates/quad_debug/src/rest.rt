@@ -27,6 +27,7 @@ fn is_at_rest(machine: &Machine) -> bool
     ensures { result ≡ spec.is_at_rest machine.now.state }
 {
     let _turns = machine.turns();
+    let _sheet = machine.sheet();
     is_empty(machine) && machine.queue().first_ready(machine.quads()).is_none()
 }
 
