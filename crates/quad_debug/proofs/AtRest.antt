@@ -1,10 +1,10 @@
 -- Whether a machine is at rest, by its queue.
-use Rattle.std.proofs.Common.{◌≡◌, ℕ, zero, suc, ◌+◌, ◌<◌, ◌≤◌, nat_eq, List, [], ◌∷◌, length, Option, Some, None, Bool, true, false, if◌then◌else◌, ap, refl, sym, ◌∙◌, subst, inl, inr, arith}
+use Rattle.std.proofs.Common.{◌≡◌, ℕ, suc, ◌+◌, ◌<◌, nat_eq, List, [], ◌∷◌, length, Option, Some, None, Bool, true, false, if◌then◌else◌, ap, refl, sym, ◌∙◌, subst, inl, inr, arith}
 use Rattle.std.specs.Prelude.{slice_get, option_map, is_none, ◌&&◌}
 use Rattle.std.proofs.lemmas.Bool.Decides.{nat_tests}
 use Rattle.cap_words.specs.Words.{W, Fix, Rom, Ram, Cap}
 use Rattle.cap_words.specs.Store.{Store}
-use Rattle.cap_words.specs.Seen.{Slot, SponsorSlot, seen, slot_seen}
+use Rattle.cap_words.specs.Seen.{SponsorSlot, seen}
 use Rattle.cap_words.specs.Frame.{Among}
 use Rattle.cap_words.specs.declared.word.Tag.TheVariants.{SponsorHeld}
 use Rattle.cap_words.proofs.Erased.{slot-seen}
@@ -14,7 +14,7 @@ use Rattle.quad_memory.specs.Cells.{sponsor_at}
 use Rattle.quad_memory.proofs.Typed.{sponsor-quads}
 use Rattle.instr_table.specs.Lane.{Lane as Flying}
 use Rattle.vm_sponsor.specs.declared.amounts.Amounts.{Amounts}
-use Rattle.vm_sponsor.specs.Ledger.{Ledger, names}
+use Rattle.vm_sponsor.specs.Ledger.{Ledger}
 use Rattle.vm_sponsor.specs.Totals.{sponsors}
 use Rattle.vm_sponsor.specs.Sheets.{Belongs, sheet_of}
 use Rattle.vm_sponsor.proofs.Rows.{sponsors-sheet_of}

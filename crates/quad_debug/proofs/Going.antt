@@ -1,5 +1,5 @@
 -- What turns of a command have written so far, and what is left where a write fails.
-use Rattle.std.proofs.Common.{◌≡◌, ℕ, zero, suc, ◌+◌, ◌-◌, ◌*◌, ◌<◌, ◌≤◌, List, [], ◌∷◌, ◌++◌, length, take, drop, Option, Some, None, Bool, true, false, refl, sym, ap, ◌∙◌, subst, ⊎_elim, arith, append-nil, append_assoc, length-append}
+use Rattle.std.proofs.Common.{◌≡◌, ℕ, zero, suc, ◌+◌, ◌-◌, ◌*◌, ◌<◌, ◌≤◌, List, [], ◌++◌, length, take, drop, Option, Some, None, Bool, true, false, refl, sym, ap, ◌∙◌, subst, ⊎_elim, arith, append-nil, append_assoc, length-append}
 use Rattle.std.specs.Prelude.{not, ◌||◌}
 use Rattle.std.proofs.Math.Nat.{eq-or-lt_of_le}
 use Rattle.std.proofs.lemmas.List.{take-append-le}
@@ -16,9 +16,9 @@ use Rattle.vm_turn.specs.declared.journal.Entry.{Entry}
 use Rattle.quad_debug.specs.Texts.{event_lines}
 use Rattle.quad_debug.specs.declared.wait.Wait.{Wait}
 use Rattle.quad_debug.specs.declared.wait.Wait.TheVariants.{Entries, Message as ForMessage}
-use Rattle.quad_debug.specs.Obeys.{goes_on, piece_at, entries_at, told_at, written_by, is_met, is_over, is_begun, stands_in, met_at, TakesTurns, IsAfter, whole, Took, Broke}
-use Rattle.quad_debug.specs.Parts.{no_text, if_more, TookTurn, BrokeTurn}
-use Rattle.quad_debug.proofs.Runs.{IsRun, after-none, after-then, same-turn, before-none, before-more, Ends, ends}
+use Rattle.quad_debug.specs.Obeys.{goes_on, piece_at, entries_at, told_at, written_by, is_met, is_over, is_begun, stands_in, met_at, IsAfter, whole, Took, Broke}
+use Rattle.quad_debug.specs.Parts.{no_text, TookTurn, BrokeTurn}
+use Rattle.quad_debug.proofs.Runs.{IsRun, after-none, after-then, same-turn, before-none, before-more, ends}
 
 -- ---- fronts of what is written
 
@@ -47,7 +47,7 @@ module _ (text : ℕ → Bytes) (n : ℕ) where
   written-begins j (suc k) h = ⊎_elim
       (λ (here : j ≡ suc k). subst (λ (i : ℕ). Begins (written_by text n i) (written_by text n (suc k))) (sym here) (begins-same (written_by text n (suc k))))
       (λ (earlier : j < suc k).
-          begins-then (written_by text n j) (written_by text n k) (written_by text n (suc k)) (written-begins j k (omega (arith, earlier))) (begins-with (written_by text n k) (text (n + k))))
+      begins-then (written_by text n j) (written_by text n k) (written_by text n (suc k)) (written-begins j k (omega (arith, earlier))) (begins-with (written_by text n k) (text (n + k))))
       (eq-or-lt_of_le h)
 
 pub appended-none : (o : Option Bytes) → o ≡ appended o []
@@ -117,7 +117,7 @@ module _ (enough : ℕ → Bool) (text last : ℕ → Bytes) (old now : Debugged
   earlier j i h =
       let h0 = holds (old.machine.turns + i) in
       let one : Begins (so_far i ++ piece_at old.machine (old.machine.turns + i)) (so_far (suc i)) =
-          record { rest = h0.rest; is = ap (λ l. so_far i ++ l) h0.is ∙ sym (append_assoc (so_far i) (piece_at old.machine (old.machine.turns + i)) h0.rest) } in
+      record { rest = h0.rest; is = ap (λ l. so_far i ++ l) h0.is ∙ sym (append_assoc (so_far i) (piece_at old.machine (old.machine.turns + i)) h0.rest) } in
       begins-length (so_far i ++ piece_at old.machine (old.machine.turns + i)) (so_far j)
       (begins-then (so_far i ++ piece_at old.machine (old.machine.turns + i)) (so_far (suc i)) (so_far j) one (written-begins text old.machine.turns (suc i) j (omega (arith, h))))
 
@@ -142,7 +142,7 @@ module _ (enough : ℕ → Bool) (text last : ℕ → Bytes) (old now : Debugged
       let top = earlier (suc j) j (omega arith) in
       let fw = front-whole j e.turns count e.more (omega (arith, under, top)) in
       let cut : take count (so_far (suc j)) ≡ so_far j ++ take front.count piece =
-          take-append-add (so_far j) (text (old.machine.turns + j)) front.count ∙ ap (λ l. so_far j ++ l) (ap (take front.count) h.is ∙ take-append-le front.count piece h.rest front.within) in
+      take-append-add (so_far j) (text (old.machine.turns + j)) front.count ∙ ap (λ l. so_far j ++ l) (ap (take front.count) h.is ∙ take-append-le front.count piece h.rest front.within) in
       record {
         turns = e.turns;
         takes = e.takes;

@@ -1,9 +1,8 @@
 -- The entries that a debugger keeps.
-use Rattle.std.proofs.Common.{◌≡◌, ℕ, suc, ◌+◌, ◌-◌, ◌<◌, ◌≤◌, List, [], ◌∷◌, ◌++◌, length, drop, refl, sym, ap, ◌∙◌, subst, arith, length-append, length-drop}
+use Rattle.std.proofs.Common.{◌≡◌, ℕ, suc, ◌+◌, ◌-◌, ◌<◌, ◌≤◌, List, [], ◌∷◌, ◌++◌, length, drop, refl, sym, ap, ◌∙◌, arith, length-append, length-drop}
 use Rattle.std.proofs.lemmas.List.{drop-append-le, drop-drop}
 use Rattle.circular_buffer.specs.Buffer.{Buffer, buffer, keep_last}
 use Rattle.vm_turn.specs.declared.journal.Entry.{Entry}
-use Rattle.vm_turn.specs.State.{State}
 use Rattle.vm_machine.specs.Machine.{Machine}
 use Rattle.quad_debug.specs.Kept.{most_kept, kept_since, Keeps}
 

@@ -1,5 +1,5 @@
 -- Numbers of few digits are small.
-use Rattle.std.proofs.Common.{◌≡◌, ℕ, zero, suc, ◌+◌, ◌*◌, ◌<◌, arith}
+use Rattle.std.proofs.Common.{ℕ, zero, suc, ◌+◌, ◌*◌, ◌<◌, arith}
 
 -- ten times ten, so often
 abbrev pub ten : ℕ → ℕ

@@ -2,9 +2,6 @@
 use Rattle.std.proofs.Common.{◌≡◌, ℕ, ◌+◌, List, [], ◌∷◌, ◌++◌, map, Option, Some, None, true, false, refl, ap, ◌∙◌}
 use Rattle.std.specs.List.{flat_map, position_from}
 use Rattle.uasm_read.specs.Texts.{Bytes, lines_of}
-use Rattle.quad_debug.specs.declared.command.Command.{Command}
-use Rattle.quad_debug.specs.declared.line.Line.{Line}
-use Rattle.quad_debug.specs.declared.line.Line.TheVariants.{Blank, Says, Bad}
 use Rattle.quad_debug.specs.Script.{line_of, commands_in, is_bad, commands_of, bad_line}
 
 -- the number of the first bad line, counted from n

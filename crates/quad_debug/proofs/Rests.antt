@@ -1,16 +1,14 @@
 -- A turn is completed where the machine is not at rest and its root has not run out; else nothing changes.
-use Rattle.std.proofs.Common.{◌≡◌, ◌%◌, ◌<◌, ◌≤◌, ℕ, zero, suc, nat_lt, List, [], ◌∷◌, length, Option, Some, None, Bool, true, false, if◌then◌else◌, refl, sym, ap, ◌∙◌, subst, arith}
+use Rattle.std.proofs.Common.{◌≡◌, ◌%◌, ◌<◌, ◌≤◌, ℕ, zero, suc, nat_lt, List, [], ◌∷◌, length, Option, Some, None, Bool, true, false, if◌then◌else◌, refl, sym, ap, ◌∙◌, arith}
 use Rattle.std.specs.Prelude.{slice_get, not, ◌&&◌, ◌||◌, is_none, is_some}
 use Rattle.std.proofs.lemmas.Nat.{mod_below}
 use Rattle.std.proofs.lemmas.Bool.Decides.{nat_tests}
-use Rattle.cap_words.specs.Words.{W, same_word}
+use Rattle.cap_words.specs.Words.{same_word}
 use Rattle.instr_table.specs.declared.charge.Quota.{Quota}
 use Rattle.instr_table.specs.Event.{Sent}
 use Rattle.instr_table.specs.Sheet.{Account, account, short, spend}
 use Rattle.instr_table.specs.Outcome.{Outcome, Goes, Faults, Commits, Row}
 use Rattle.instr_table.specs.Lane.{Lane, lane_row}
-use Rattle.vm_turn.specs.declared.journal.Turn.{Turn as Answer}
-use Rattle.vm_turn.specs.declared.journal.Turn.TheVariants.{Rest, Spent}
 use Rattle.vm_turn.specs.State.{State, Message, root}
 use Rattle.vm_turn.specs.Actors.{sent_at}
 use Rattle.vm_turn.specs.Piece.{piece}

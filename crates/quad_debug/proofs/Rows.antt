@@ -1,15 +1,14 @@
 -- The lines of a sheet, row by row, and that there are no more rows than quads.
-use Rattle.std.proofs.Common.{◌≡◌, ℕ, zero, suc, ◌+◌, ◌<◌, ◌≤◌, List, [], ◌∷◌, ◌++◌, length, take, drop, Option, Some, None, Bool, true, false, if◌then◌else◌, refl, sym, ap, ◌∙◌, subst, inl, inr, arith, append-nil, append_assoc, take-append-drop}
-use Rattle.std.specs.Prelude.{slice_get, map, option_map}
+use Rattle.std.proofs.Common.{◌≡◌, ℕ, zero, suc, ◌+◌, ◌≤◌, List, [], ◌∷◌, ◌++◌, length, take, drop, Option, Some, None, Bool, true, false, if◌then◌else◌, refl, sym, ap, ◌∙◌, subst, inl, inr, arith, append-nil, append_assoc}
+use Rattle.std.specs.Prelude.{slice_get, option_map}
 use Rattle.std.proofs.lemmas.List.{length-map}
 use Rattle.hum_outside.specs.Outside.{AppendsFront, appended}
 use Rattle.hum_outside.proofs.Fronts.{all_after, front_after, front_left}
 use Rattle.cap_words.specs.Words.{W, Fix, Rom, Ram, Cap, same_word}
 use Rattle.cap_words.specs.Store.{Store, used}
-use Rattle.cap_words.specs.Seen.{Seen, Slot, erase, seen}
+use Rattle.cap_words.specs.Seen.{Seen, erase, seen}
 use Rattle.cap_words.specs.Frame.{Among}
 use Rattle.cap_words.proofs.Same.{word_same, word_differs}
-use Rattle.quad_memory.specs.Memory.{Memory}
 use Rattle.instr_table.specs.Sheet.{Account}
 use Rattle.vm_sponsor.specs.declared.amounts.SheetRow.{SheetRow}
 use Rattle.vm_sponsor.specs.declared.amounts.Amounts.{Amounts}
@@ -83,7 +82,7 @@ few-names zero [] a h = omega arith
 few-names zero (w ∷ ws) a h = absurd (no-name w (h w (inl refl)))
 few-names (suc n) ws a h =
     let r = few-names n (others (Cap n) ws) (others-apart (Cap n) ws a)
-        (λ w among. let o = others-among (Cap n) w ws among in below-last n w (h w o.0) o.1) in
+    (λ w among. let o = others-among (Cap n) w ws among in below-last n w (h w o.0) o.1) in
     let l = others-length (Cap n) ws a in
     omega (arith, r, l)
 
@@ -149,10 +148,10 @@ module _ (n : ℕ) (sheet : List Account) (a : Account) (at : slice_get sheet n 
       let s = split-at n sheet a at in
       let e : 0 + length (take n sheet) ≡ n = omega (arith, s.1) in
       let all : sheet_lines 0 sheet ≡ sheet_lines 0 (take n sheet) ++ (account_lines n a ++ sheet_lines (suc n) (drop (suc n) sheet)) =
-          ap (sheet_lines 0) s.0 ∙ sheet_lines-append 0 (take n sheet) (a ∷ drop (suc n) sheet) ∙ ap (λ (k : ℕ). sheet_lines 0 (take n sheet) ++ sheet_lines k (a ∷ drop (suc n) sheet)) e in
+      ap (sheet_lines 0) s.0 ∙ sheet_lines-append 0 (take n sheet) (a ∷ drop (suc n) sheet) ∙ ap (λ (k : ℕ). sheet_lines 0 (take n sheet) ++ sheet_lines k (a ∷ drop (suc n) sheet)) e in
       subst (AppendsFront old new) (sym all)
       (front_after old mid new (sheet_lines 0 (take n sheet)) (account_lines n a ++ sheet_lines (suc n) (drop (suc n) sheet)) so_far
-          (front_left mid new (account_lines n a) (sheet_lines (suc n) (drop (suc n) sheet)) front))
+      (front_left mid new (account_lines n a) (sheet_lines (suc n) (drop (suc n) sheet)) front))
 
 -- a row that is shown is that of an account
 pub shown-of : (o : Option Account) (r : SheetRow) → Some r ≡ option_map shown o → (a : Account) × (o ≡ Some a) × (r ≡ shown a)

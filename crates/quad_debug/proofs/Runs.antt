@@ -1,18 +1,17 @@
 -- Turns of a run, one after another.
-use Rattle.std.proofs.Common.{◌≡◌, ℕ, zero, suc, ◌+◌, ◌*◌, ◌<◌, ◌≤◌, List, [], ◌∷◌, ◌++◌, length, take, drop, Option, Some, None, Bool, true, false, if◌then◌else◌, refl, sym, ap, ◌∙◌, subst, inl, inr, ◌⊎◌, ⊎_elim, arith, append-nil, append_assoc, length-append}
+use Rattle.std.proofs.Common.{◌≡◌, ℕ, zero, suc, ◌+◌, ◌*◌, ◌<◌, ◌≤◌, List, [], ◌∷◌, ◌++◌, Option, Some, None, Bool, true, false, if◌then◌else◌, refl, sym, ap, ◌∙◌, subst, inl, inr, ◌⊎◌, ⊎_elim, arith}
 use Rattle.std.specs.Prelude.{not, ◌&&◌, ◌||◌, is_none}
 use Rattle.std.proofs.Math.Nat.{eq-or-lt_of_le}
 use Rattle.quad_memory.specs.Image.{RomImage}
 use Rattle.instr_table.specs.declared.charge.Quota.{Quota}
-use Rattle.vm_turn.specs.State.{State, Message}
+use Rattle.vm_turn.specs.State.{State}
 use Rattle.vm_turn.specs.Boot.{booted}
-use Rattle.vm_turn.specs.Turn.{dispatchable, go, turn, unless_spent}
-use Rattle.vm_turn.specs.Run.{after, answers, completed, completes, drawn, drawn_after, not_rest, pick_of, picks, run, unless_out}
+use Rattle.vm_turn.specs.Turn.{dispatchable, turn, unless_spent}
+use Rattle.vm_turn.specs.Run.{after, completed, completes, drawn, drawn_after, not_rest, pick_of, picks, run, unless_out}
 use Rattle.vm_turn.proofs.Runs.{after-append, picks-next}
 use Rattle.vm_turn.proofs.RunsSound.{turns-end}
 use Rattle.vm_machine.specs.Machine.{Machine, drawn_run}
 use Rattle.vm_machine.specs.View.{unwritten}
-use Rattle.uasm_read.specs.Texts.{Bytes}
 use Rattle.quad_debug.specs.Obeys.{state_at, pick_at, turn_at, goes_on, is_empty, TakesTurns, IsAfter}
 use Rattle.quad_debug.proofs.Rests.{go-told}
 use Rattle.quad_debug.proofs.Unwritten.{turn-unwritten}

@@ -9,7 +9,7 @@ use Rattle.instr_table.specs.Reach.{Every}
 use Rattle.vm_turn.specs.State.{Message, State}
 use Rattle.vm_turn.specs.Turn.{is_in_flight}
 use Rattle.event_queue.specs.Pending.{Pending, event_of, IsAscending}
-use Rattle.event_queue.specs.Waiting.{message_of, messages_of, waiting, StandsFor}
+use Rattle.event_queue.specs.Waiting.{messages_of, waiting, StandsFor}
 use Rattle.vm_machine.specs.Messages.{is_among, is_unfinished, kept_from, unfinished}
 use Rattle.quad_debug.specs.Obeys.{ready_in}
 

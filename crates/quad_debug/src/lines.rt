@@ -6,8 +6,7 @@ ghost use Rattle.hum_outside.specs.Outside.{HasCause, AppendsFront, appended};
 ghost use Rattle.quad_debug.specs.Texts as spec;
 
 use crate::command::Place;
-use cap_words::Quad;
-use cap_words::Word;
+use cap_words::{Quad, Word};
 use event_queue::Queue;
 use failure_lines::put_failure;
 use hum_outside::{Failed, Sink, put_all, put_parts};
@@ -33,7 +32,14 @@ fn put_committed<K: Sink>(out: &mut K, message: u32) -> Result<(), Failed>
     ensures cause { HasCause (K.faults out.old) (K.faults out.new) result }
 {
     let mut number = Buffer::new();
-    put_parts(out, &[b"* event ", number.format(message).as_bytes(), b" committed\n"])
+    put_parts(
+        out,
+        &[
+            b"* event ",
+            number.format(message).as_bytes(),
+            b" committed\n",
+        ],
+    )
 }
 
 // Writes the line of an event that failed.
@@ -54,7 +60,10 @@ fn put_ran_out<K: Sink>(out: &mut K, message: u32, kind: Quota) -> Result<(), Fa
 {
     let mut number = Buffer::new();
     let message = number.format(message).as_bytes();
-    put_parts(out, &[b"* event ", message, b" spent ", kind_name(kind), b"\n"])
+    put_parts(
+        out,
+        &[b"* event ", message, b" spent ", kind_name(kind), b"\n"],
+    )
 }
 
 /// Writes the line of an entry.
@@ -99,7 +108,10 @@ pub fn put_flight<K: Sink>(out: &mut K, message: u32) -> Result<(), Failed>
     ensures cause { HasCause (K.faults out.old) (K.faults out.new) result }
 {
     let mut number = Buffer::new();
-    put_parts(out, &[b"* in flight ", number.format(message).as_bytes(), b"\n"])
+    put_parts(
+        out,
+        &[b"* in flight ", number.format(message).as_bytes(), b"\n"],
+    )
 }
 
 // Writes that a message is ready.
@@ -109,7 +121,10 @@ fn put_ready<K: Sink>(out: &mut K, message: u32) -> Result<(), Failed>
     ensures cause { HasCause (K.faults out.old) (K.faults out.new) result }
 {
     let mut number = Buffer::new();
-    put_parts(out, &[b"* ready ", number.format(message).as_bytes(), b"\n"])
+    put_parts(
+        out,
+        &[b"* ready ", number.format(message).as_bytes(), b"\n"],
+    )
 }
 
 /// Writes that each ready message is, in order.

@@ -1,4 +1,4 @@
-use Rattle.std.proofs.Common.{◌≡◌, ◌∙◌, ◌++◌, ◌+◌, ◌-◌, ap, sym, subst, arith, length, drop, List}
+use Rattle.std.proofs.Common.{◌≡◌, ◌∙◌, ◌++◌, ◌+◌, ◌-◌, ap, sym, subst, length, drop, List}
 use Rattle.std.proofs.lemmas.List.Concat.{flat_map-append}
 use Rattle.circular_buffer.specs.Buffer.{keep_last}
 use Rattle.hum_outside.specs.Outside.{AppendsFront, appended}
@@ -42,4 +42,4 @@ returns-clause-front g c =
     let first = c.in_ok-put_events.ensures.all ∙ ap (λ (es : List Entry). appended (w c.args.out.now) (event_lines es)) c.entries_from.ensures in
     on_err-map c.put_events-3.result c.put_events-3.ensures.front c.put_events-3.ensures.cause.failed
     (λ front rose. subst (AppendsFront (w c.args.out.now) (w c.put_events-3.new.out)) text
-        (front_after (w c.args.out.now) (w c.put_events-2.new.out) (w c.put_events-3.new.out) (event_lines (drop left earlier)) (event_lines later) first front))
+    (front_after (w c.args.out.now) (w c.put_events-2.new.out) (w c.put_events-3.new.out) (event_lines (drop left earlier)) (event_lines later) first front))

@@ -1,6 +1,5 @@
-use Rattle.std.proofs.Common.{◌≡◌, ◌∙◌, ◌+◌, ◌≤◌, suc, ℕ, ap, sym, subst, arith, take, length, List, Some, None}
+use Rattle.std.proofs.Common.{◌≡◌, ◌∙◌, ◌+◌, ◌≤◌, suc, ℕ, ap, sym, arith, take, length, List, Some, None}
 use Rattle.std.specs.Prelude.{slice_get}
-use Rattle.cap_words.specs.Store.{used}
 use Rattle.quad_memory.specs.Memory.{Memory}
 use Rattle.hum_outside.specs.Outside.{appended}
 use Rattle.hum_outside.proofs.Fronts.{on_err}
@@ -17,7 +16,7 @@ rows-preserved g c =
     let m = c.args.machine.now in
     let n = c.rows.number in
     let rows_are : sheet_of c.quads-quads.result.now.store c.sheet-sheet.result.now.rows ≡ m.state.sheet =
-        ap (λ (q : Memory). sheet_of q.store c.sheet-sheet.result.now.rows) c.quads-quads.ensures.value ∙ c.sheet-sheet.ensures.sheet in
+    ap (λ (q : Memory). sheet_of q.store c.sheet-sheet.result.now.rows) c.quads-quads.ensures.value ∙ c.sheet-sheet.ensures.sheet in
     let row = shown-of (slice_get (sheet_of c.quads-quads.result.now.store c.sheet-sheet.result.now.rows) n) c.in-Some.row c.in-Some.ensures in
     let at : slice_get m.state.sheet n ≡ Some row.0 = ap (λ (s : List Account). slice_get s n) (sym rows_are) ∙ row.1 in
     let next = rows-more n m.state.sheet row.0 at (w c.args.out.now) (w c.rows.out) (w c.put_account.new.out) c.rows.invariant.so_far (c.in_ok-put_account.ensures.all row.0 row.2) in
@@ -33,7 +32,7 @@ returns-in_err-put_account-clause-front g c =
     let m = c.args.machine.now in
     let n = c.rows.number in
     let rows_are : sheet_of c.quads-quads.result.now.store c.sheet-sheet.result.now.rows ≡ m.state.sheet =
-        ap (λ (q : Memory). sheet_of q.store c.sheet-sheet.result.now.rows) c.quads-quads.ensures.value ∙ c.sheet-sheet.ensures.sheet in
+    ap (λ (q : Memory). sheet_of q.store c.sheet-sheet.result.now.rows) c.quads-quads.ensures.value ∙ c.sheet-sheet.ensures.sheet in
     let row = shown-of (slice_get (sheet_of c.quads-quads.result.now.store c.sheet-sheet.result.now.rows) n) c.in-Some.row c.in-Some.ensures in
     let at : slice_get m.state.sheet n ≡ Some row.0 = ap (λ (s : List Account). slice_get s n) (sym rows_are) ∙ row.1 in
     on_err c.from_residual.result (rows-front n m.state.sheet row.0 at (w c.args.out.now) (w c.rows.out) (w c.put_account.new.out) c.rows.invariant.so_far (c.in_err-put_account.ensures.front row.0 row.2))
@@ -44,9 +43,9 @@ returns-in_default-clause-all g c =
     let m = c.args.machine.now in
     let n = c.rows.number in
     let rows_are : sheet_of c.quads-quads.result.now.store c.sheet-sheet.result.now.rows ≡ m.state.sheet =
-        ap (λ (q : Memory). sheet_of q.store c.sheet-sheet.result.now.rows) c.quads-quads.ensures.value ∙ c.sheet-sheet.ensures.sheet in
+    ap (λ (q : Memory). sheet_of q.store c.sheet-sheet.result.now.rows) c.quads-quads.ensures.value ∙ c.sheet-sheet.ensures.sheet in
     let none : slice_get m.state.sheet n ≡ None =
-        ap (λ (s : List Account). slice_get s n) (sym rows_are) ∙ shown-none (slice_get (sheet_of c.quads-quads.result.now.store c.sheet-sheet.result.now.rows) n) (sym c.in_default.is ∙ c.row.ensures) in
+    ap (λ (s : List Account). slice_get s n) (sym rows_are) ∙ shown-none (slice_get (sheet_of c.quads-quads.result.now.store c.sheet-sheet.result.now.rows) n) (sym c.in_default.is ∙ c.row.ensures) in
     c.rows.invariant.so_far ∙ ap (λ (s : List Account). appended (w c.args.out.now) (sheet_lines 0 s)) (whole-there n m.state.sheet none)
 
 pub returns-clause-all : goal.returns-clause-all

@@ -1,4 +1,4 @@
-use Rattle.std.proofs.Common.{◌≡◌, ◌≤◌, ◌-◌, length, take}
+use Rattle.std.proofs.Common.{◌≡◌, ◌≤◌, ◌-◌, take}
 use Rattle.cap_words.specs.Store.{used}
 use Rattle.hum_outside.specs.Outside.{appended}
 use Rattle.quad_debug.specs.Texts.{sheet_lines}

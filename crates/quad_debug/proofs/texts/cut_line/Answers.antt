@@ -1,7 +1,7 @@
-use Rattle.std.proofs.Common.{◌≡◌, ◌∙◌, ◌-◌, ◌+◌, ◌∷◌, sym, ap, length, take, drop, add-one}
+use Rattle.std.proofs.Common.{◌≡◌, ◌∙◌, ◌-◌, ◌+◌, ◌∷◌, sym, length, take, drop, add-one}
 use Rattle.std.proofs.lemmas.List.{take_rest}
 use Rattle.std.specs.List.{position_or_len, slice_split}
-use Rattle.uasm_read.specs.Texts.{is_line_feed, lines_of}
+use Rattle.uasm_read.specs.Texts.{is_line_feed}
 use Rattle.quad_debug.proofs.Cutting.{split_whole, split_at, lines_last, lines_more}
 use Rattle.quad_debug.proofs.texts.cut_line.Goals as goal
 

@@ -22,7 +22,7 @@ returns-in_err-put_turns-clause-breaks g c =
     let turns : c.turns.result ≡ m.turns + took.turns = c.turns.ensures.value ∙ ap (λ (x : Machine). x.turns) c.machine.ensures ∙ took.machine.turns_are in
     on_err c.from_residual-in_err-put_turns.result
     (broke-last (nat_le c.args.count) (piece_at m) (λ (k : ℕ). turn_line (m.turns + k)) c.args.self.now c.take.new.self (w c.args.out.now) (w c.take.new.out) (silent-holds m) took (w c.put_turns.new.out)
-        (subst (λ (n : ℕ). AppendsFront (w c.take.new.out) (w c.put_turns.new.out) (turn_line n)) turns c.in_err-put_turns.ensures.front))
+    (subst (λ (n : ℕ). AppendsFront (w c.take.new.out) (w c.put_turns.new.out) (turn_line n)) turns c.in_err-put_turns.ensures.front))
 
 pub returns-clause-obeys : goal.returns-clause-obeys
 returns-clause-obeys g c =

@@ -1,6 +1,5 @@
-use Rattle.std.proofs.Common.{◌≡◌, ◌+◌, ◌∙◌, ap, sym, subst, refl, arith, nat_le, true, false, Bool}
+use Rattle.std.proofs.Common.{◌+◌, ◌∙◌, ap, subst, arith, nat_le, true, false, Bool}
 use Rattle.std.specs.Prelude.{◌||◌, not}
-use Rattle.std.proofs.lemmas.Bool.Decides.{nat_tests}
 use Rattle.hum_outside.proofs.Fronts.{on_err}
 use Rattle.quad_debug.specs.Obeys.{state_at, piece_at, goes_on}
 use Rattle.quad_debug.specs.Parts.{no_text, TookTurn}

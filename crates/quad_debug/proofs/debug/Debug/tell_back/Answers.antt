@@ -19,7 +19,7 @@ returns-clause-obeys g c =
     let d = c.args.self.now in
     let w = g.K.Sink.written in
     let text : event_lines (keep_last c.args.count inside.entries.items) ≡ event_lines (keep_last c.args.count (kept d)) =
-        ap (λ es. event_lines (keep_last c.args.count es)) (c.self.invariant.items ∙ ap kept c.self.view_is) in
+    ap (λ es. event_lines (keep_last c.args.count es)) (c.self.invariant.items ∙ ap kept c.self.view_is) in
     took-none (is_enough d.machine (Back c.args.count)) (turn_text d.machine (Back c.args.count)) (last_text d (Back c.args.count)) d (w c.args.out.now) (w c.put_last.new.out) run refl (c.in_ok-put_last.ensures.all ∙ ap (appended (w c.args.out.now)) text)
 
 pub returns-in_err-put_last-clause-breaks : goal.returns-in_err-put_last-clause-breaks
@@ -31,5 +31,5 @@ returns-in_err-put_last-clause-breaks g c =
     let d = c.args.self.now in
     let w = g.K.Sink.written in
     let text : event_lines (keep_last c.args.count inside.entries.items) ≡ event_lines (keep_last c.args.count (kept d)) =
-        ap (λ es. event_lines (keep_last c.args.count es)) (c.self.invariant.items ∙ ap kept c.self.view_is) in
+    ap (λ es. event_lines (keep_last c.args.count es)) (c.self.invariant.items ∙ ap kept c.self.view_is) in
     on_err c.from_residual.result (broke-none (is_enough d.machine (Back c.args.count)) (turn_text d.machine (Back c.args.count)) (last_text d (Back c.args.count)) d (w c.args.out.now) (w c.put_last.new.out) run refl (subst (AppendsFront (w c.args.out.now) (w c.put_last.new.out)) text c.in_err-put_last.ensures.front))

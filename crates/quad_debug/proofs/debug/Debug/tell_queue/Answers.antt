@@ -1,4 +1,4 @@
-use Rattle.std.proofs.Common.{◌≡◌, ◌∙◌, ap, sym, subst, refl, List, ℕ, Option}
+use Rattle.std.proofs.Common.{◌≡◌, ◌∙◌, ap, sym, subst, refl}
 use Rattle.hum_outside.specs.Outside.{AppendsFront, appended}
 use Rattle.hum_outside.proofs.Fronts.{on_err}
 use Rattle.quad_debug.specs.Obeys.{state_at, is_enough, turn_text, last_text}
@@ -7,7 +7,6 @@ use Rattle.quad_debug.proofs.Runs.{IsRun}
 use Rattle.quad_debug.proofs.Going.{took-none, broke-none}
 use Rattle.std.specs.List.{flat_map}
 use Rattle.vm_machine.specs.Machine.{Machine}
-use Rattle.vm_turn.specs.State.{State}
 use Rattle.quad_debug.specs.Texts.{ready_line}
 use Rattle.quad_debug.specs.Obeys.{ready_in}
 use Rattle.quad_debug.proofs.Waiting.{ready-there}

@@ -1,4 +1,4 @@
-use Rattle.std.proofs.Common.{◌≡◌, ◌∙◌, ap, sym, subst, refl, List, ℕ, Option}
+use Rattle.std.proofs.Common.{◌≡◌, ◌∙◌, ap, subst, refl}
 use Rattle.hum_outside.specs.Outside.{AppendsFront, appended}
 use Rattle.hum_outside.proofs.Fronts.{on_err}
 use Rattle.quad_debug.specs.Obeys.{state_at, is_enough, turn_text, last_text}

@@ -1,5 +1,5 @@
 use Rattle.std.proofs.Common.{◌≡◌, ◌∙◌, ◌++◌, ap, sym, subst, refl, arith, length, drop, nat_lt, List, ℕ}
-use Rattle.circular_buffer.specs.Buffer.{Buffer, buffer, keep_last}
+use Rattle.circular_buffer.specs.Buffer.{Buffer}
 use Rattle.hum_outside.proofs.Fronts.{on_err}
 use Rattle.vm_turn.specs.declared.journal.Entry.{Entry}
 use Rattle.vm_machine.specs.Machine.{Machine}
@@ -51,9 +51,9 @@ invariant_of-self-2 g c =
     let took = took-turn old new c.in_ok-_answer._answer (w c.args.out.now) (w c.turn.new.out) run e.image e.grant e.lanes e.seed e.turns e.turn refl (nat_lt m.turns c.turn.new.self.turns) refl in
     let added = c.entries_from-added.result.now in
     let cut : added ≡ drop (length m.state.journal) c.turn.new.self.state.journal =
-        c.entries_from-added.ensures ∙ ap (λ (j : List Entry). drop (length j) c.journal.result.now) c.journal-ended.ensures.value ∙ ap (drop (length m.state.journal)) c.journal.ensures.value in
+    c.entries_from-added.ensures ∙ ap (λ (j : List Entry). drop (length j) c.journal.result.now) c.journal-ended.ensures.value ∙ ap (drop (length m.state.journal)) c.journal.ensures.value in
     let journal : c.turn.new.self.state.journal ≡ m.state.journal ++ added =
-        extended old new (w c.args.out.now) (w c.turn.new.out) (nat_lt m.turns c.turn.new.self.turns) took ∙ ap (λ (es : List Entry). m.state.journal ++ es) (sym cut) in
+    extended old new (w c.args.out.now) (w c.turn.new.out) (nat_lt m.turns c.turn.new.self.turns) took ∙ ap (λ (es : List Entry). m.state.journal ++ es) (sym cut) in
     subst (λ (b : Buffer Entry). Keeps c.turn.new.self inside.began b) (sym c.extend_from_slice.ensures) (keeps-more m c.turn.new.self inside.began inside.entries added c.self.invariant journal)
 
 pub returns-clause-turns : goal.returns-clause-turns

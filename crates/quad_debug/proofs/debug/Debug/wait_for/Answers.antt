@@ -33,7 +33,7 @@ returns-in_err-put_ending-clause-breaks g c =
     let text : ending c.args.wait c.is_rest_told-rests.result c.machine-3.result.now.state ≡ ending_at m c.args.wait k = ap (λ (b : Bool). ending c.args.wait b c.machine-3.result.now.state) rests ∙ ap (ending c.args.wait (tells_rest c.args.wait k s)) here in
     on_err c.from_residual-in_err-put_ending.result
     (broke-last (met_at m c.args.wait) (told_at m) (ending_at m c.args.wait) old new (w c.args.out.now) (w c.walk.new.out) (told-holds m) took (w c.put_ending.new.out)
-        (subst (AppendsFront (w c.walk.new.out) (w c.put_ending.new.out)) text c.in_err-put_ending.ensures.front))
+    (subst (AppendsFront (w c.walk.new.out) (w c.put_ending.new.out)) text c.in_err-put_ending.ensures.front))
 
 pub returns-clause-waits : goal.returns-clause-waits
 returns-clause-waits g c =

@@ -1,13 +1,12 @@
-use Rattle.std.proofs.Common.{◌≡◌, ◌≤◌, ◌∙◌, ◌+◌, ◌*◌, ap, sym, subst, refl, arith, length, drop, take, true, false, Bool, List}
-use Rattle.std.specs.Prelude.{◌||◌, not}
+use Rattle.std.proofs.Common.{◌≡◌, ◌≤◌, ◌∙◌, ◌+◌, ◌*◌, ap, sym, subst, refl, arith, length, drop, take, true, false, List}
 use Rattle.hum_outside.proofs.Fronts.{on_err}
 use Rattle.vm_turn.specs.declared.journal.Entry.{Entry}
 use Rattle.vm_machine.specs.Machine.{Machine}
-use Rattle.quad_debug.specs.Obeys.{state_at, told_at, met_at, entries_at, goes_on, is_met, is_over, is_begun, stands_in}
+use Rattle.quad_debug.specs.Obeys.{state_at, told_at, met_at, entries_at, is_over, is_begun, stands_in}
 use Rattle.quad_debug.specs.Parts.{no_text, TookTurn}
 use Rattle.quad_debug.proofs.Runs.{IsRun}
 use Rattle.quad_debug.proofs.Turned.{grows, added-entries, front-journal}
-use Rattle.quad_debug.proofs.Going.{goes-none, goes-told, goes-ends, took-all, device-breaks, line-breaks, told-holds, met-now, not-met, over-met, begun-met, stands-none, over-stands, turns-fewer}
+use Rattle.quad_debug.proofs.Going.{goes-none, goes-told, took-all, device-breaks, line-breaks, told-holds, met-now, not-met, stands-none, over-stands, turns-fewer}
 use Rattle.quad_debug.proofs.debug.Debug.walk.Goals as goal
 
 pub is_over-over-requires : goal.is_over-over-requires
@@ -37,7 +36,7 @@ turns-preserved g c =
     let before : c.journal-ended.result.now ≡ now.machine.state.journal = c.journal-ended.ensures.value ∙ ap (λ (m : Machine). m.state.journal) c.machine-in-turns.ensures in
     let after : c.journal-journal.result.now ≡ c.turn.new.self.machine.state.journal = c.journal-journal.ensures.value ∙ ap (λ (m : Machine). m.state.journal) c.machine-in-turns-3.ensures in
     let lines : c.entries_from.result.now ≡ entries_at now.machine now.machine.turns =
-        c.entries_from.ensures ∙ ap (λ (j : List Entry). drop (length j) c.journal-journal.result.now) before ∙ ap (drop (length now.machine.state.journal)) after ∙ added-entries now c.turn.new.self (w c.turns.out) (w c.turn.new.out) took in
+    c.entries_from.ensures ∙ ap (λ (j : List Entry). drop (length j) c.journal-journal.result.now) before ∙ ap (drop (length now.machine.state.journal)) after ∙ added-entries now c.turn.new.self (w c.turns.out) (w c.turn.new.out) took in
     record {
       goes = goes-told (met_at old.machine c.args.wait) (told_at old.machine) old now (w c.args.out.now) (w c.turns.out) goes c.turn.new.self (w c.turn.new.out) (w c.put_events.new.out) c.entries_from.result.now refl none took lines c.in_ok-put_events.ensures.all;
       over = c.is_over-over-in-turns.ensures ∙ ap (is_over c.args.wait) after;
@@ -57,7 +56,7 @@ turns-smaller g c =
     let before : c.journal-ended.result.now ≡ now.machine.state.journal = c.journal-ended.ensures.value ∙ ap (λ (m : Machine). m.state.journal) c.machine-in-turns.ensures in
     let after : c.journal-journal.result.now ≡ c.turn.new.self.machine.state.journal = c.journal-journal.ensures.value ∙ ap (λ (m : Machine). m.state.journal) c.machine-in-turns-3.ensures in
     let top : c.turn.new.self.machine.turns ≤ c.turn.new.self.machine.grant.cycles + 2 * (c.turn.new.self.machine.grant.events + 1) =
-        subst (λ (m : Machine). m.turns ≤ m.grant.cycles + 2 * (m.grant.events + 1)) c.machine-in-turns-2.ensures (omega (arith, c.turns-turns-in-turns.ensures.bound, c.turns-turns-in-turns.ensures.value)) in
+    subst (λ (m : Machine). m.turns ≤ m.grant.cycles + 2 * (m.grant.events + 1)) c.machine-in-turns-2.ensures (omega (arith, c.turns-turns-in-turns.ensures.bound, c.turns-turns-in-turns.ensures.value)) in
     turns-fewer now.machine c.turn.new.self.machine took.machine top
 
 pub entries_from-requires : goal.entries_from-requires
@@ -93,7 +92,7 @@ is_over-over-requires-in-turns g c =
     let a = ap length before in
     let b = ap length after in
     let front : take (length c.journal-ended.result.now) c.journal-journal.result.now ≡ now.machine.state.journal =
-        ap (λ (j : List Entry). take (length j) c.journal-journal.result.now) before ∙ ap (take (length now.machine.state.journal)) after ∙ front-journal now c.turn.new.self (w c.turns.out) (w c.turn.new.out) true took in
+    ap (λ (j : List Entry). take (length j) c.journal-journal.result.now) before ∙ ap (take (length now.machine.state.journal)) after ∙ front-journal now c.turn.new.self (w c.turns.out) (w c.turn.new.out) true took in
     record { within = omega (arith, more, a, b); unseen = ap (stands_in c.args.wait) front ∙ over-stands c.args.wait now.machine.state.journal over }
 
 pub returns-in_err-turn-clause-breaks : goal.returns-in_err-turn-clause-breaks
@@ -121,7 +120,7 @@ returns-in_err-put_events-clause-breaks g c =
     let before : c.journal-ended.result.now ≡ now.machine.state.journal = c.journal-ended.ensures.value ∙ ap (λ (m : Machine). m.state.journal) c.machine-in-turns.ensures in
     let after : c.journal-journal.result.now ≡ c.turn.new.self.machine.state.journal = c.journal-journal.ensures.value ∙ ap (λ (m : Machine). m.state.journal) c.machine-in-turns-3.ensures in
     let lines : c.entries_from.result.now ≡ entries_at now.machine now.machine.turns =
-        c.entries_from.ensures ∙ ap (λ (j : List Entry). drop (length j) c.journal-journal.result.now) before ∙ ap (drop (length now.machine.state.journal)) after ∙ added-entries now c.turn.new.self (w c.turns.out) (w c.turn.new.out) took in
+    c.entries_from.ensures ∙ ap (λ (j : List Entry). drop (length j) c.journal-journal.result.now) before ∙ ap (drop (length now.machine.state.journal)) after ∙ added-entries now c.turn.new.self (w c.turns.out) (w c.turn.new.out) took in
     on_err c.from_residual-in_err-put_events.result
     (line-breaks (met_at old.machine c.args.wait) (told_at old.machine) old now (w c.args.out.now) (w c.turns.out) goes c.turn.new.self (w c.turn.new.out) no_text (w c.put_events.new.out) c.entries_from.result.now (told-holds old.machine) refl none took lines c.in_err-put_events.ensures.front)
 
