@@ -100,7 +100,12 @@ const ROWS: [(i32, u32, &str, &str); 9] = [
         "* turn 2\n* sponsor 0 memory received 1000 passed 0 spent 1 held 999\n* sponsor 0 events received 200 passed 0 spent 0 held 200\n* sponsor 0 cycles received 100 passed 0 spent 1 held 99\n",
     ),
     (1, 100, " step\t1 \r\n\n  \t\nqueue", "* turn 1\n"),
-    (1, 100, "event 2\nevent 1", "* event 0 committed\n42\n* event 1 committed\n* rest\n"),
+    (
+        1,
+        100,
+        "event 2\nevent 1",
+        "* event 0 committed\n42\n* event 1 committed\n* rest\n",
+    ),
 ];
 
 #[test]
@@ -118,7 +123,12 @@ fn scripts_are_obeyed(rt: HostRuntime) -> Result<(), Fail> {
 // Which call on out fails; what then stands there, how many entries the journal has, and what the next `event 9` writes.
 const FAULTS: [(u64, &str, usize, &str); 3] = [
     (0, "", 1, "42\n* event 1 committed\n* rest\n"),
-    (21, "* event 0 committed\n4", 1, "42\n* event 1 committed\n* rest\n"),
+    (
+        21,
+        "* event 0 committed\n4",
+        1,
+        "42\n* event 1 committed\n* rest\n",
+    ),
     (25, "* event 0 committed\n42\n* ", 2, "* rest\n"),
 ];
 
@@ -166,7 +176,8 @@ fn scripts_are_read(rt: HostRuntime) -> Result<(), Fail> {
         let refused = read_script(alloc, script.as_bytes());
         assert!(rt; matches!(refused, Err(ScriptError::Refused { line: at }) if at == line));
     }
-    let all = "step 000000001\nevent 999999999\nbreak 0\nshow rom 16\nshow ram 1\nqueue\nsheet\nback 64";
+    let all =
+        "step 000000001\nevent 999999999\nbreak 0\nshow rom 16\nshow ram 1\nqueue\nsheet\nback 64";
     let commands = read_script(alloc, all.as_bytes()).expect(&rt, "a script");
     let wanted = [
         Command::Step(1),
@@ -212,7 +223,10 @@ fn the_last_entries_are_kept(rt: HostRuntime) -> Result<(), Fail> {
     // A debugger that is started now keeps none of them.
     let mut debug = Debug::start(alloc, debug.end())?;
     let out = told(&rt, alloc, &mut debug, "back 3\nevent 1\nback 3")?;
-    assert_eq!(rt; out.bytes(), b"* event 70 committed\n* event 70 committed\n".as_slice());
+    assert_eq!(rt;
+        out.bytes(),
+        b"* event 70 committed\n* event 70 committed\n".as_slice()
+    );
     let none: Option<Quad> = debug.show(Place::Rom(0));
     assert!(rt; none.is_none());
     let committed = Entry {

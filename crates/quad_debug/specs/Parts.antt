@@ -1,7 +1,6 @@
 -- What the parts of obeying come to.
-use Rattle.std.specs.Prelude.{◌≡◌, ℕ, ◌+◌, nat_le, Bool, true, false, if◌then◌else◌, List, [], ◌++◌, Option}
+use Rattle.std.specs.Prelude.{◌≡◌, ℕ, nat_le, Bool, true, false, List, [], ◌++◌, Option}
 use Rattle.hum_outside.specs.Outside.{AppendsFront, appended}
-use Rattle.vm_machine.specs.Machine.{Machine}
 use Rattle.uasm_read.specs.Texts.{Bytes}
 use Rattle.quad_debug.specs.declared.wait.Wait.{Wait}
 use Rattle.quad_debug.specs.Kept.{Debugged}

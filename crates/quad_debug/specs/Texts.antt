@@ -70,7 +70,7 @@ abbrev pub hex_digit : ℕ → ℕ
 hex_digit d = if nat_lt d 10 then 48 + d else 55 + d
 
 -- a number below 2 ^ 32 in 8 hexadecimal digits
-abbrev pub hex_of : ℕ → Bytes
+unfoldable pub hex_of : ℕ → Bytes
 hex_of b =
     hex_digit (b / 268435456 % 16) ∷ hex_digit (b / 16777216 % 16) ∷ hex_digit (b / 1048576 % 16) ∷ hex_digit (b / 65536 % 16)
     ∷ hex_digit (b / 4096 % 16) ∷ hex_digit (b / 256 % 16) ∷ hex_digit (b / 16 % 16) ∷ hex_digit (b % 16) ∷ []

@@ -1,19 +1,19 @@
 // A machine that obeys commands.
 
-ghost use Rattle.std.specs.Prelude.{◌≡◌, length, OnErr, OnOk, IfOk};
+ghost use Rattle.std.specs.Prelude.{◌≡◌, ◌||◌, nat_eq, not, length, OnErr, OnOk, IfOk};
 ghost use Rattle.hum_outside.specs.Outside.{HasCause, AppendsFront, appended};
 ghost use Rattle.circular_buffer.specs.Buffer.{keep_last};
 ghost use Rattle.quad_debug.specs.Texts.{event_lines};
 ghost use Rattle.quad_debug.specs.Obeys as spec;
 ghost use Rattle.quad_debug.specs.Parts as parts;
-ghost use Rattle.quad_debug.specs.declared.command.Command.TheVariants.{Step, Event};
+ghost use Rattle.quad_debug.specs.declared.command.Command.TheVariants.{Step, Event, Show, Queue, Sheet, Back};
 
 use crate::NoMemory;
 use crate::command::{Command, Place};
 use crate::lines::{put_cell, put_events, put_queue, put_turns};
 use crate::rest::put_ending;
 use crate::sheet::put_sheet;
-use crate::wait::{Wait, is_begun, is_over};
+use crate::wait::{Wait, entries_from, is_begun, is_over};
 use cap_words::Quad;
 use circular_buffer::HeapCircularBuffer;
 use hum_outside::{Failed, Sink};
@@ -58,10 +58,18 @@ fn put_last<K: Sink>(
     let (earlier, later) = entries.as_slices();
     let left_out = (earlier.len() + later.len()).saturating_sub(count as usize);
     if left_out > earlier.len() {
-        return put_events(out, &later[left_out - earlier.len()..]);
+        let last = entries_from(later, left_out - earlier.len());
+        return put_events(out, last);
     }
-    put_events(out, &earlier[left_out..])?;
+    put_events(out, entries_from(earlier, left_out))?;
     put_events(out, later)
+}
+
+// Whether it is told that a machine is at rest: where no turn was taken, or what was waited for did not come.
+fn is_rest_told(before: u64, now: u64, met: bool) -> bool
+    ensures { result ≡ (nat_eq now before || not met) }
+{
+    now == before || !met
 }
 
 impl Debug {
@@ -110,10 +118,10 @@ impl Debug {
             Command::Step(count) => self.step(count, out),
             Command::Event(count) => self.event(count, out),
             Command::BreakAt(message) => self.wait_for(Wait::Message(message), out),
-            Command::Show(place) => Ok(put_cell(out, place, self.show(place))?),
-            Command::Queue => Ok(put_queue(out, self.machine.queue())?),
-            Command::Sheet => Ok(put_sheet(out, &self.machine)?),
-            Command::Back(count) => Ok(put_last(out, &self.entries, count)?),
+            Command::Show(place) => self.tell_cell(place, out),
+            Command::Queue => self.tell_queue(out),
+            Command::Sheet => self.tell_sheet(out),
+            Command::Back(count) => self.tell_back(count, out),
         }
     }
 
@@ -121,6 +129,46 @@ impl Debug {
         ensures { result.now ≡ self.now.machine }
     {
         &self.machine
+    }
+
+    // Writes a cell.
+    fn tell_cell<K: Sink>(&self, place: Place, out: &mut K) -> Result<(), WriteFault>
+        ensures obeys { OnOk result (spec.Obeys (Show place) self.now self.now (K.written out.old) (K.written out.new)) }
+        ensures breaks { OnErr result (spec.BreaksOff (Show place) self.now self.now (K.written out.old) (K.written out.new)) }
+        ensures cause { HasCause (K.faults out.old) (K.faults out.new) result }
+    {
+        let _turns = self.machine().turns();
+        Ok(put_cell(out, place, self.show(place))?)
+    }
+
+    // Writes the ready messages.
+    fn tell_queue<K: Sink>(&self, out: &mut K) -> Result<(), WriteFault>
+        ensures obeys { OnOk result (spec.Obeys Queue self.now self.now (K.written out.old) (K.written out.new)) }
+        ensures breaks { OnErr result (spec.BreaksOff Queue self.now self.now (K.written out.old) (K.written out.new)) }
+        ensures cause { HasCause (K.faults out.old) (K.faults out.new) result }
+    {
+        let _turns = self.machine().turns();
+        Ok(put_queue(out, self.machine().queue())?)
+    }
+
+    // Writes the sponsors.
+    fn tell_sheet<K: Sink>(&self, out: &mut K) -> Result<(), WriteFault>
+        ensures obeys { OnOk result (spec.Obeys Sheet self.now self.now (K.written out.old) (K.written out.new)) }
+        ensures breaks { OnErr result (spec.BreaksOff Sheet self.now self.now (K.written out.old) (K.written out.new)) }
+        ensures cause { HasCause (K.faults out.old) (K.faults out.new) result }
+    {
+        let _turns = self.machine().turns();
+        Ok(put_sheet(out, self.machine())?)
+    }
+
+    // Writes so many of the last entries.
+    fn tell_back<K: Sink>(&self, count: u32, out: &mut K) -> Result<(), WriteFault>
+        ensures obeys { OnOk result (spec.Obeys (Back count) self.now self.now (K.written out.old) (K.written out.new)) }
+        ensures breaks { OnErr result (spec.BreaksOff (Back count) self.now self.now (K.written out.old) (K.written out.new)) }
+        ensures cause { HasCause (K.faults out.old) (K.faults out.new) result }
+    {
+        let _turns = self.machine.turns();
+        Ok(put_last(out, &self.entries, count)?)
     }
 
     // Takes a turn, if there is one, and keeps the entry that it adds.
@@ -132,8 +180,8 @@ impl Debug {
         let turns = self.machine.turns();
         let ended = self.machine.journal().len();
         let _answer = self.machine.turn(out)?;
-        self.entries
-            .extend_from_slice(&self.machine.journal()[ended..]);
+        let added = entries_from(self.machine.journal(), ended);
+        self.entries.extend_from_slice(added);
         Ok(self.machine.turns() > turns)
     }
 
@@ -143,7 +191,8 @@ impl Debug {
         ensures breaks { OnErr result (parts.BreaksSteps count self.old self.new (K.written out.old) (K.written out.new)) }
         ensures cause { HasCause (K.faults out.old) (K.faults out.new) result }
     {
-        for _ in 0..count {
+        let _turns = self.machine().turns();
+        'turns: for _taken in 0..count {
             if !self.turn(out)? {
                 return Ok(());
             }
@@ -159,6 +208,7 @@ impl Debug {
         ensures breaks { OnErr result (parts.BreaksWalk wait self.old self.new (K.written out.old) (K.written out.new)) }
         ensures cause { HasCause (K.faults out.old) (K.faults out.new) result }
     {
+        let _turns = self.machine().turns();
         let mut over = is_over(wait, self.machine().journal(), 0);
         'turns: loop {
             if over || is_begun(wait, self.machine()) {
@@ -168,8 +218,9 @@ impl Debug {
             if !self.turn(out)? {
                 return Ok(false);
             }
+            let _turns = self.machine().turns();
             let journal = self.machine().journal();
-            put_events(out, &journal[ended..])?;
+            put_events(out, entries_from(journal, ended))?;
             over = is_over(wait, journal, ended);
         }
     }
@@ -182,7 +233,7 @@ impl Debug {
     {
         let turns = self.machine().turns();
         let met = self.walk(wait, out)?;
-        let rests = self.machine().turns() == turns || !met;
+        let rests = is_rest_told(turns, self.machine().turns(), met);
         Ok(put_ending(out, self.machine(), wait, rests)?)
     }
 

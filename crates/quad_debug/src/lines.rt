@@ -154,6 +154,7 @@ fn hex_digit(digit: u32) -> u8
 }
 
 // A number in 8 hexadecimal digits.
+#[tactic(auto, unfolding(crate::specs::Texts::hex_of))]
 fn hex_of(bits: u32) -> [u8; 8]
     ensures { result ≡ spec.hex_of bits }
 {

@@ -10,7 +10,7 @@ use hum_outside::{Failed, Sink, put_all};
 use vm_machine::Machine;
 
 // Whether nothing is in flight.
-fn is_empty(machine: &Machine) -> bool
+fn is_flight_empty(machine: &Machine) -> bool
     ensures { result ≡ spec.is_empty machine.now.state.flight }
 {
     let _turns = machine.turns();
@@ -27,7 +27,8 @@ fn is_at_rest(machine: &Machine) -> bool
     ensures { result ≡ spec.is_at_rest machine.now.state }
 {
     let _turns = machine.turns();
-    is_empty(machine) && machine.queue().first_ready(machine.quads()).is_none()
+    let _sheet = machine.sheet();
+    is_flight_empty(machine) && machine.queue().first_ready(machine.quads()).is_none()
 }
 
 // Writes that the message that is waited for is in flight.

@@ -151,6 +151,7 @@ fn command_of(word: &[u8], text: &[u8]) -> Option<Command>
 }
 
 // What a line says. One without a byte is blank.
+#[tactic(auto, unfolding(crate::specs::Script::line_of, crate::specs::Script::line_in))]
 fn line_of(line: &[u8]) -> Line
     ensures value { result ≡ spec.line_of line.now }
     ensures some { spec.is_bad result ≡ true → 0 < length line.now }

@@ -73,6 +73,7 @@ pub fn put_sheet<K: Sink>(out: &mut K, machine: &Machine) -> Result<(), Failed>
     let _turns = machine.turns();
     let (sheet, quads) = (machine.sheet(), machine.quads());
     let mut number = 0;
+    // There are no more sponsors than quads.
     'rows: while number < quads.used() {
         let Some(row) = sheet.row(quads, number) else {
             return Ok(());

@@ -77,6 +77,7 @@ pub fn cut_line(text: &[u8]) -> (&[u8], Option<&[u8]>)
 
 /// The first part and what stands behind it.
 pub fn next_part(text: &[u8]) -> Option<(&[u8], &[u8])>
+    ensures some { IfSome result (λ parts. 0 < length text.now) }
     ensures parts { MatchOption result (texts.parts_of text.now ≡ []) (λ parts. texts.parts_of text.now ≡ parts.0.now ∷ texts.parts_of parts.1.now) }
 {
     let start = len_of(Class::Blank, text);

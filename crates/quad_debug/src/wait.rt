@@ -1,6 +1,6 @@
 // What turns are taken for.
 
-ghost use Rattle.std.specs.Prelude.{◌≡◌, ◌≤◌, length, take, false};
+ghost use Rattle.std.specs.Prelude.{◌≡◌, ◌≤◌, length, take, drop, false};
 ghost use Rattle.quad_debug.specs.Obeys as spec;
 
 use vm_machine::Machine;
@@ -22,6 +22,14 @@ fn has_ended(message: u32, entries: &[Entry]) -> bool
     entries.iter().any(|entry| entry.message == message)
 }
 
+/// The entries from a place on.
+pub fn entries_from(entries: &[Entry], place: usize) -> &[Entry]
+    requires { place ≤ length entries.now }
+    ensures { result.now ≡ drop place entries.now }
+{
+    &entries[place..]
+}
+
 /// Whether the journal shows that it has come. In its first `seen` entries the message does not stand.
 pub fn is_over(wait: Wait, journal: &[Entry], seen: usize) -> bool
     requires within { seen ≤ length journal.now }
@@ -30,7 +38,7 @@ pub fn is_over(wait: Wait, journal: &[Entry], seen: usize) -> bool
 {
     match wait {
         Wait::Entries(count) => count <= journal.len(),
-        Wait::Message(message) => has_ended(message, &journal[seen..]),
+        Wait::Message(message) => has_ended(message, entries_from(journal, seen)),
     }
 }
 
