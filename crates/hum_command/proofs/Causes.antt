@@ -1,5 +1,5 @@
 -- Declined commands have their answers' causes.
-use Rattle.std.proofs.Common.{◌≡◌, Bool, true, false, ℕ, List, Option, Some, refl, tt}
+use Rattle.std.proofs.Common.{◌≡◌, Bool, true, false, ℕ, List, Option, Some, refl}
 use Rattle.hum_outside.specs.Outside.{told}
 use Rattle.quad_memory.specs.Image.{RomImage}
 use Rattle.uasm_image.specs.Spelled.{spelled}

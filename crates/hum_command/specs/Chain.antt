@@ -1,5 +1,5 @@
 -- The text that `chain N` runs.
-use Rattle.std.specs.Prelude.{ℕ, ◌+◌, ◌-◌, List, [], ◌∷◌, ◌++◌, codes, decimal}
+use Rattle.std.specs.Prelude.{ℕ, zero, suc, ◌+◌, ◌-◌, List, [], ◌∷◌, ◌++◌, codes, decimal}
 use Rattle.std.specs.List.{concat}
 
 -- the statement that creates the actor behind the first k, which forwards to the last of them
@@ -8,7 +8,7 @@ forwarder k = concat (codes "CREATE a" ∷ decimal (k + 1) ∷ codes " WITH fwd(
 
 -- the statements that create n actors behind the first
 abbrev pub forwarders : ℕ → List ℕ
-forwarders 0 = []
+forwarders zero = []
 forwarders (suc n) = forwarders n ++ forwarder (n + 1)
 
 -- Each of n actors forwards one more than it is sent, the first one to `println`, and the last one is sent 0.

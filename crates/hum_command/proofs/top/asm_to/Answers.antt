@@ -18,9 +18,9 @@ pub returns-in-Ok-clause-answered : goal.returns-in-Ok-clause-answered
 returns-in-Ok-clause-answered g c = λ last.
     let w = g.K.Sink.written in
     let a = c.args in
-    let put = c.put_bytes-answer in
+    let put = c.put_bytes in
     let code = c.in-Ok.ensures.listing in
     listed a.name.now
     (call g.F.Folder.files g.F.Folder.faults w g.K.Sink.faults a.files.now c.list_file.new.files a.out.now put.new.out a.err.now a.err.now last last)
-    code.0 code.1 code.2 code.3 c.in-Ok.listing.items code.4 (refl {a = w a.err.now}) (refl {a = last}) put.result
+    code.0 code.1 code.2.0 code.2.1 c.in-Ok.listing.items code.2.2 (refl {a = w a.err.now}) (refl {a = last}) put.result
     (subst (λ (bytes : List ℕ). PutsAll put.result (writes w g.K.Sink.faults a.out.now put.new.out) bytes) c.deref.ensures.value put.ensures.answered)

@@ -17,7 +17,7 @@ pub returns-in-Ok-clause-answered : goal.returns-in-Ok-clause-answered
 returns-in-Ok-clause-answered g c = λ last.
     let w = g.K.Sink.written in
     let a = c.args in
-    let put = c.put_bytes-answer in
+    let put = c.put_bytes in
     let image = c.in-Ok.ensures.bytes in
     linked (map (string_bytes {Z = Global}) a.names.now)
     (call g.F.Folder.files g.F.Folder.faults w g.K.Sink.faults a.files.now c.link_files.new.files a.out.now put.new.out a.err.now a.err.now last last)
