@@ -1,5 +1,5 @@
 -- Where nothing fails, each command is done or refused.
-use Rattle.std.proofs.Common.{Bool, true, false, not, tt, ◌≡◌, ◌⊎◌, ◌∙◌, ℕ, List, [], ◌∷◌, codes, Option, Some, None, Ok, refl, sym, ap, subst, inl, inr, ⊎_elim, arith}
+use Rattle.std.proofs.Common.{Bool, true, false, not, ◌≡◌, ◌⊎◌, ◌∙◌, ℕ, List, [], ◌∷◌, codes, Option, Some, None, Ok, refl, sym, ap, subst, inl, inr, ⊎_elim, arith}
 use Rattle.std.proofs.lemmas.Option.{none-some}
 use Rattle.hum_outside.specs.Outside.{told}
 use Rattle.quad_memory.specs.Image.{RomImage}
@@ -212,7 +212,7 @@ module _ (name script bytes lines : List ℕ) (c : Call) (are : Told c name scri
   both_there : (x : List ℕ) → IsNext c.files (name ∷ script ∷ []) x → Unreadable c.faults_old c.faults_new (told c.files x) → ⊥
   both_there x next cause = ⊎_elim are.reads
       (λ none. told_there c.files next.before next.after (bytes ∷ lines ∷ []) x
-      (subst (λ (ns : List (List ℕ)). AreTold c.files ns (bytes ∷ lines ∷ [])) next.split (are.code, are.commands, tt)) none) cause
+      (subst (λ (ns : List (List ℕ)). AreTold c.files ns (bytes ∷ lines ∷ [])) next.split (are.code, (are.commands, tt))) none) cause
 
   module _ (bs ls : List ℕ) (have : HaveBoth c.files name script bs ls) where
     same_code : (P : List ℕ → Type 0) → P bs → P bytes

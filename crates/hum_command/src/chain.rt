@@ -1,5 +1,5 @@
 // The command `chain`: the text of a chain of actors, and its run.
-ghost use Rattle.std.specs.Prelude.{◌≡◌, ◌<◌, ◌≤◌, ◌++◌, IfOk, IfErr, OnOk};
+ghost use Rattle.std.specs.Prelude.{◌≡◌, ◌<◌, ◌≤◌, ◌^◌, ◌++◌, IfOk, IfErr, OnOk};
 ghost use Rattle.std.specs.List.{flat_map};
 ghost use Rattle.hum_command.specs.Keys.{WithinLimits};
 ghost use Rattle.hum_command.specs.Chain as spec;

@@ -1,5 +1,5 @@
 // The command `debug`: a machine that obeys the commands of a script.
-ghost use Rattle.std.specs.Prelude.{◌≡◌, ◌×◌, ◌<◌, ◌≤◌, ℕ, List, None, length, true, false, not, IfOk, IfErr, OnOk, OnErr, MatchOption};
+ghost use Rattle.std.specs.Prelude.{◌≡◌, ◌<◌, ◌≤◌, ℕ, List, None, length, true, false, not, IfSome, IfOk, IfErr, OnOk, OnErr, MatchOption};
 ghost use Rattle.hum_outside.specs.Outside.{HasCause};
 ghost use Rattle.quad_debug.specs.Script.{commands_of};
 ghost use Rattle.hum_command.specs.Keys.{WithinLimits};
@@ -38,6 +38,13 @@ fn is_text(name: &str) -> bool
     ensures { result ≡ spec.is_text name.now }
 {
     name.as_bytes().ends_with(b".hum")
+}
+
+// The most bytes that the file may have.
+fn code_limit(text: bool) -> u64
+    ensures { result ≡ parts.code_limit text }
+{
+    if text { TEXT_LIMIT } else { FILE_LIMIT }
 }
 
 // The machine that the code of a text boots to.
@@ -79,7 +86,8 @@ fn boot_code(
     code: Option<Vec<u8>>,
     keys: Keys,
 ) -> Result<Machine, Answer>
-    requires { WithinLimits keys }
+    requires limits { WithinLimits keys }
+    requires short { IfSome code (λ v. length v.items ≤ parts.code_limit text) }
     ensures boots { IfOk result (λ m. (bytes : List ℕ) →
         MatchOption code (parts.code_limit text < length bytes) (λ v. (v.items ≡ bytes) × (length bytes ≤ parts.code_limit text))
         → spec.BootsCode (not text) bytes keys m) }
@@ -97,6 +105,7 @@ fn boot_code(
 
 // The commands of a script, where its bytes are not too many.
 fn commands_in(alloc: Global, lines: Option<Vec<u8>>) -> Result<Vec<Command>, Answer>
+    requires { IfSome lines (λ v. length v.items ≤ spec.script_limit) }
     ensures commands { IfOk result (λ commands. (bytes : List ℕ) →
         MatchOption lines (spec.script_limit < length bytes) (λ v. (v.items ≡ bytes) × (length bytes ≤ spec.script_limit))
         → (spec.script_fault bytes ≡ None) × (commands.items ≡ commands_of bytes)) }
@@ -130,8 +139,7 @@ pub fn read_session<'a, F: Folder>(
     ensures later { F.faults files.old ≤ F.faults files.new }
 {
     let text = is_text(name);
-    let limit = if text { TEXT_LIMIT } else { FILE_LIMIT };
-    let code = match read_file(alloc, files, name, limit) {
+    let code = match read_file(alloc, files, name, code_limit(text)) {
         Ok(code) => code,
         Err(answer) => return Err(Declined { answer, name }),
     };
@@ -165,8 +173,10 @@ pub fn obey_all<K: Sink>(
     ensures breaks { OnErr result (spec.BreaksOffIn commands.now debug.old debug.new (K.written out.old) (K.written out.new)) }
     ensures cause { HasCause (K.faults out.old) (K.faults out.new) result }
 {
-    for command in commands {
+    let mut rest = commands;
+    while let Some((command, more)) = rest.split_first() {
         debug.obey(*command, out)?;
+        rest = more;
     }
     Ok(())
 }

@@ -194,7 +194,8 @@ fn exec_file<F: Folder, K: Sink>(
 // Obeys the commands of a script.
 fn debug_file<F: Folder, K: Sink>(
     alloc: Global,
-    names: (&str, &str),
+    name: &str,
+    script: &str,
     keys: Keys,
     files: &mut F,
     out: &mut K,
@@ -202,14 +203,13 @@ fn debug_file<F: Folder, K: Sink>(
     last: &mut Record,
 ) -> Answer
     requires { WithinLimits keys }
-    ensures answered { DebugAnswers names.0.now names.1.now keys result
+    ensures answered { DebugAnswers name.now script.now keys result
         (call F.files F.faults K.written K.faults files.old files.new out.old out.new err.old err.new last.old last.new) }
     ensures files { F.files files.new ≡ F.files files.old }
     ensures files_later { F.faults files.old ≤ F.faults files.new }
     ensures out_later { K.faults out.old ≤ K.faults out.new }
     ensures err_later { K.faults err.old ≤ K.faults err.new }
 {
-    let (name, script) = names;
     let Session { machine, commands } = match read_session(alloc, files, name, script, keys) {
         Ok(session) => session,
         Err(declined) => {
@@ -256,7 +256,7 @@ fn answer<F: Folder, K: Sink>(
         Some(Command::Link(names)) => link_to(alloc, names, files, out, err),
         Some(Command::Exec(name, keys)) => exec_file(alloc, name, keys, files, out, err, last),
         Some(Command::Debug(name, script, keys)) => {
-            debug_file(alloc, (name, script), keys, files, out, err, last)
+            debug_file(alloc, name, script, keys, files, out, err, last)
         }
         Some(Command::Chain(n, keys)) => run_chain(alloc, n, keys, out, err, last),
     }
