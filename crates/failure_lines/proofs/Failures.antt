@@ -18,7 +18,3 @@ module _ (w : W) (n : ℤ) (is : Some n ≡ number_of w) where
 -- the line of a number without a name, by the texts of both numbers
 pub coded_line : (message : ℕ) (n : ℤ) (number code : List ℕ) → number ≡ decimal message → code ≡ signed_decimal n → concat (codes "event " ∷ number ∷ codes " failed: code " ∷ code ∷ codes "\n" ∷ []) ≡ line_with message (code_text n)
 coded_line message n number code is code_is = λ i. concat (codes "event " ∷ is i ∷ codes " failed: code " ∷ code_is i ∷ codes "\n" ∷ [])
-
--- no line of a failure is empty
-pub failure-some : (message : ℕ) (reason : W) → failure_line message reason ≡ [] → ⊥
-failure-some message reason none = cc

@@ -16,8 +16,8 @@ use Rattle.vm_turn.specs.declared.journal.Entry.{Entry}
 use Rattle.quad_debug.specs.Texts.{event_lines}
 use Rattle.quad_debug.specs.declared.wait.Wait.{Wait}
 use Rattle.quad_debug.specs.declared.wait.Wait.TheVariants.{Entries, Message as ForMessage}
-use Rattle.quad_debug.specs.Obeys.{goes_on, piece_at, entries_at, told_at, written_by, is_met, is_over, is_begun, stands_in, met_at, IsAfter, whole, Took, Broke}
-use Rattle.quad_debug.specs.Parts.{no_text, TookTurn, BrokeTurn}
+use Rattle.quad_debug.specs.Obeys.{goes_on, piece_at, entries_at, told_at, written_by, is_met, is_over, is_begun, met_at, IsAfter, whole, Took, Broke}
+use Rattle.quad_debug.specs.Parts.{stands_in, no_text, TookTurn, BrokeTurn}
 use Rattle.quad_debug.proofs.Runs.{IsRun, after-none, after-then, same-turn, before-none, before-more, ends}
 
 -- ---- fronts of what is written

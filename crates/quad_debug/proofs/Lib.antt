@@ -4,7 +4,7 @@ mod Unwritten
 mod Rests
 mod Waiting
 mod AtRest
-mod Runs
+pub mod Runs
 mod Going
 mod Turned
 mod Counting

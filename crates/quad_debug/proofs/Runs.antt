@@ -12,7 +12,8 @@ use Rattle.vm_turn.proofs.Runs.{after-append, picks-next}
 use Rattle.vm_turn.proofs.RunsSound.{turns-end}
 use Rattle.vm_machine.specs.Machine.{Machine, drawn_run}
 use Rattle.vm_machine.specs.View.{unwritten}
-use Rattle.quad_debug.specs.Obeys.{state_at, pick_at, turn_at, goes_on, is_empty, TakesTurns, IsAfter}
+use Rattle.quad_debug.specs.Obeys.{state_at, pick_at, turn_at, goes_on, is_empty, is_enough, TakesTurns, IsAfter}
+use Rattle.quad_debug.specs.Laws.{CommandsEnd}
 use Rattle.quad_debug.proofs.Rests.{go-told}
 use Rattle.quad_debug.proofs.Unwritten.{turn-unwritten}
 
@@ -151,3 +152,23 @@ module _ (m : Machine) where
         by : Ends j ⊎ Before (suc bound + j) → Ends j
         by (inl x) = x
         by (inr f) = absurd (let n = few (suc bound + j) (λ i h. (f i h).1) in omega (arith, n))
+
+-- ---- how many turns a command takes
+
+true-false : true ≡ false → ⊥
+true-false e = cc
+
+-- neither of two numbers is less than the other
+not-less : (m : Machine) (enough : ℕ → Bool) (j k : ℕ) → TakesTurns m enough j → TakesTurns m enough k → j < k → ⊥
+not-less m enough j k a b less =
+    let before = b.before j less in
+    true-false (sym a.at_end ∙ ap (λ (x : Bool). x || not (goes_on m (m.turns + j))) before.0 ∙ ap not before.1)
+
+pub commands-end : CommandsEnd
+commands-end = record {
+  some = λ m command run_is. let e = ends m (is_enough m command) 0 (before-none m (is_enough m command)) in (e.turns, e.takes);
+  one = λ m command j k a b.
+      let up = not-less m (is_enough m command) j k a b in
+      let down = not-less m (is_enough m command) k j b a in
+      omega (arith, up, down);
+}

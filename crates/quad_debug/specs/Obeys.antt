@@ -81,11 +81,6 @@ abbrev pub is_over : Wait → List Entry → Bool
 is_over (Entries count) journal = nat_le count (length journal)
 is_over (ForMessage message) journal = has_ended message journal
 
--- an event of the message that is waited for is among these entries
-abbrev pub stands_in : Wait → List Entry → Bool
-stands_in (Entries count) entries = false
-stands_in (ForMessage message) entries = has_ended message entries
-
 -- the message is in flight
 abbrev pub is_begun : Wait → List Lane → Bool
 is_begun (Entries count) flight = false
@@ -191,6 +186,10 @@ module _ (enough : ℕ → Bool) (text last : ℕ → Bytes) (old new : Debugged
   abbrev pub whole : ℕ → Bytes
   whole k = written_by text old.machine.turns k ++ last k
 
+  -- what k turns and the device of the next one write
+  abbrev pub up_to_device : ℕ → Bytes
+  up_to_device k = written_by text old.machine.turns k ++ piece_at old.machine (old.machine.turns + k)
+
   pub record Took : Type 0 where
     pub turns : ℕ
     pub takes : TakesTurns old.machine enough turns
@@ -210,8 +209,8 @@ module _ (enough : ℕ → Bool) (text last : ℕ → Bytes) (old new : Debugged
     pub count : ℕ
     pub count_within : count ≤ length (whole turns)
     pub out : out_new ≡ appended out_old (take count (whole turns))
-    pub wrote : (j : ℕ) → j < completed → length (written_by text old.machine.turns j ++ piece_at old.machine (old.machine.turns + j)) ≤ count
-    pub no_more : completed < turns → count ≤ length (written_by text old.machine.turns completed ++ piece_at old.machine (old.machine.turns + completed))
+    pub wrote : (j : ℕ) → j < completed → length (up_to_device j) ≤ count
+    pub no_more : completed < turns → count ≤ length (up_to_device completed)
 
 -- the command was obeyed
 abbrev pub Obeys : Command → (old new : Debugged) → (out_old out_new : Option Bytes) → Type 0

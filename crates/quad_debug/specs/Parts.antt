@@ -2,9 +2,11 @@
 use Rattle.std.specs.Prelude.{◌≡◌, ℕ, nat_le, Bool, true, false, List, [], ◌++◌, Option}
 use Rattle.hum_outside.specs.Outside.{AppendsFront, appended}
 use Rattle.uasm_read.specs.Texts.{Bytes}
+use Rattle.vm_turn.specs.declared.journal.Entry.{Entry}
 use Rattle.quad_debug.specs.declared.wait.Wait.{Wait}
+use Rattle.quad_debug.specs.declared.wait.Wait.TheVariants.{Entries, Message as ForMessage}
 use Rattle.quad_debug.specs.Kept.{Debugged}
-use Rattle.quad_debug.specs.Obeys.{goes_on, piece_at, told_at, entries_at, met_at, ending_at, IsAfter, Took, Broke}
+use Rattle.quad_debug.specs.Obeys.{goes_on, has_ended, piece_at, told_at, entries_at, met_at, ending_at, IsAfter, Took, Broke}
 
 -- nothing
 abbrev pub no_text : ℕ → Bytes
@@ -17,6 +19,11 @@ if_more false xs = []
 abbrev pub one_if : Bool → ℕ
 one_if true = 1
 one_if false = 0
+
+-- an event of the message that is waited for is among these entries
+abbrev pub stands_in : Wait → List Entry → Bool
+stands_in (Entries count) entries = false
+stands_in (ForMessage message) entries = has_ended message entries
 
 module _ (old new : Debugged) (out_old out_new : Option Bytes) where
   -- a turn was taken, or there is none

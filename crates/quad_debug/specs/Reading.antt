@@ -16,4 +16,9 @@ is_in class.Line b = not (is_line_feed b)
 
 -- what a row of the sheet has of one kind
 abbrev pub row_amount : Quota → SheetRow → Amount
-row_amount kind r = record { received = of_kind kind r.received; passed = of_kind kind r.passed; spent = of_kind kind r.spent; held = of_kind kind r.held }
+row_amount kind r = record {
+  received = of_kind kind r.received;
+  passed = of_kind kind r.passed;
+  spent = of_kind kind r.spent;
+  held = of_kind kind r.held;
+}

@@ -104,8 +104,8 @@ cell_line place (Some q) = words_line place q
 -- the line of a sponsor and one kind, with what it received, passed on, spent and holds of it
 abbrev pub amount_line : ℕ → Quota → Amount → Bytes
 amount_line number kind a = concat (
-    codes "* sponsor " ∷ decimal number ∷ codes " " ∷ kind_name kind ∷ codes " received " ∷ decimal a.received ∷ codes " passed " ∷ decimal a.passed
-    ∷ codes " spent " ∷ decimal a.spent ∷ codes " held " ∷ decimal a.held ∷ codes "\n" ∷ [])
+    codes "* sponsor " ∷ decimal number ∷ codes " " ∷ kind_name kind ∷ codes " received " ∷ decimal a.received
+    ∷ codes " passed " ∷ decimal a.passed ∷ codes " spent " ∷ decimal a.spent ∷ codes " held " ∷ decimal a.held ∷ codes "\n" ∷ [])
 
 -- the three lines of a sponsor
 abbrev pub account_lines : ℕ → Account → Bytes

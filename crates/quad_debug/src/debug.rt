@@ -107,8 +107,8 @@ impl Debug {
 
     /// Does what the command says, and writes its lines. It takes no memory.
     ///
-    /// `WriteFault` comes only where the sink's count of faults rose. A front of the command's text was written then, and the machine is after
-    /// the turns that were completed; a later call goes on from there.
+    /// `WriteFault` comes only where the sink's count of faults rose. A front of the command's text was written then, and the machine is
+    /// after the turns that were completed; a later call goes on from there.
     pub fn obey<K: Sink>(&mut self, command: Command, out: &mut K) -> Result<(), WriteFault>
         ensures obeys { OnOk result (spec.Obeys command self.old self.new (K.written out.old) (K.written out.new)) }
         ensures breaks { OnErr result (spec.BreaksOff command self.old self.new (K.written out.old) (K.written out.new)) }
@@ -200,8 +200,8 @@ impl Debug {
         Ok(())
     }
 
-    // Takes turns until what is waited for has come, and writes the lines of the events that end. Says whether it has come; where it has not,
-    // there is no further turn.
+    // Takes turns until what is waited for has come, and writes the lines of the events that end. Says whether it has come; where it has
+    // not, there is no further turn.
     fn walk<K: Sink>(&mut self, wait: Wait, out: &mut K) -> Result<bool, WriteFault>
         ensures runs { OnOk result (parts.Walks wait self.old self.new (K.written out.old) (K.written out.new)) }
         ensures met { IfOk result (λ met. met ≡ spec.is_met wait self.new.machine.state) }

@@ -175,8 +175,8 @@ fn add(commands: &mut Vec<Command>, command: Command) -> Result<(), AllocError>
 /// The commands of a script, one a line.
 ///
 /// Lines are ended by a line feed or the end of the script, and a carriage return before a line feed is a blank; spaces and tabs separate
-/// parts; blank lines say nothing. A number has 1 to 9 digits. `Refused` comes exactly where a line is neither blank nor a command, with the
-/// first such line; any call may answer `NoMemory` instead.
+/// parts; blank lines say nothing. A number has 1 to 9 digits. `Refused` comes exactly where a line is neither blank nor a command, with
+/// the first such line; any call may answer `NoMemory` instead.
 pub fn read_script(alloc: Global, bytes: &[u8]) -> Result<Vec<Command>, ScriptError>
     requires { length bytes.now < 2 ^ 32 }
     ensures commands { IfOk result (λ commands. commands.items ≡ spec.commands_of bytes.now) }

@@ -2,6 +2,7 @@
 
 ghost use Rattle.std.specs.Prelude.{◌≡◌, ◌≤◌, length, take, drop, false};
 ghost use Rattle.quad_debug.specs.Obeys as spec;
+ghost use Rattle.quad_debug.specs.Parts.{stands_in};
 
 use vm_machine::Machine;
 use vm_turn::Entry;
@@ -33,7 +34,7 @@ pub fn entries_from(entries: &[Entry], place: usize) -> &[Entry]
 /// Whether the journal shows that it has come. In its first `seen` entries the message does not stand.
 pub fn is_over(wait: Wait, journal: &[Entry], seen: usize) -> bool
     requires within { seen ≤ length journal.now }
-    requires unseen { spec.stands_in wait (take seen journal.now) ≡ false }
+    requires unseen { stands_in wait (take seen journal.now) ≡ false }
     ensures { result ≡ spec.is_over wait journal.now }
 {
     match wait {

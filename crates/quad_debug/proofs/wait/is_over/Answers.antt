@@ -1,7 +1,8 @@
 use Rattle.std.proofs.Common.{◌∙◌, ap, sym, nat_eq, take}
 use Rattle.vm_turn.specs.declared.journal.Entry.{Entry}
 use Rattle.quad_debug.specs.declared.wait.Wait.{Wait}
-use Rattle.quad_debug.specs.Obeys.{has_ended, is_over as over_by, stands_in}
+use Rattle.quad_debug.specs.Obeys.{has_ended, is_over as over_by}
+use Rattle.quad_debug.specs.Parts.{stands_in}
 use Rattle.quad_debug.proofs.Searching.{any-behind}
 use Rattle.quad_debug.proofs.wait.is_over.Goals as goal
 

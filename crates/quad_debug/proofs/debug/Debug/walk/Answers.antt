@@ -2,8 +2,8 @@ use Rattle.std.proofs.Common.{◌≡◌, ◌≤◌, ◌∙◌, ◌+◌, ◌*◌,
 use Rattle.hum_outside.proofs.Fronts.{on_err}
 use Rattle.vm_turn.specs.declared.journal.Entry.{Entry}
 use Rattle.vm_machine.specs.Machine.{Machine}
-use Rattle.quad_debug.specs.Obeys.{state_at, told_at, met_at, entries_at, is_over, is_begun, stands_in}
-use Rattle.quad_debug.specs.Parts.{no_text, TookTurn}
+use Rattle.quad_debug.specs.Obeys.{state_at, told_at, met_at, entries_at, is_over, is_begun}
+use Rattle.quad_debug.specs.Parts.{stands_in, no_text, TookTurn}
 use Rattle.quad_debug.proofs.Runs.{IsRun}
 use Rattle.quad_debug.proofs.Turned.{grows, added-entries, front-journal}
 use Rattle.quad_debug.proofs.Going.{goes-none, goes-told, took-all, device-breaks, line-breaks, told-holds, met-now, not-met, stands-none, over-stands, turns-fewer}
