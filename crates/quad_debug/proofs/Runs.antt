@@ -35,7 +35,7 @@ state-next m n = ap unwritten (run-next m.image m.grant m.state.lanes m.seed n) 
 pub after-none : (m : Machine) → IsRun m → IsAfter m m 0
 after-none m run_is =
     let e : m.turns + 0 ≡ m.turns = omega arith in
-    record { image = refl; grant = refl; lanes = refl; seed = refl; turns_are = sym e; state = run_is ∙ ap (state_at m) (sym e) }
+    record { image = refl; grant = refl; lanes = refl; seed = refl; turns_are = sym e; state = run_is ∙ ap (state_at m) (sym e); same = λ none. refl }
 
 module _ (a b : Machine) (i : ℕ) (x : IsAfter a b i) where
   pub same-state : (n : ℕ) → state_at b n ≡ state_at a n
@@ -55,6 +55,7 @@ module _ (a b : Machine) (i : ℕ) (x : IsAfter a b i) where
         seed = y.seed ∙ x.seed;
         turns_are = y.turns_are ∙ turns;
         state = y.state ∙ same-state (b.turns + j) ∙ ap (state_at a) turns;
+        same = λ none. y.same (omega (arith, none)) ∙ x.same (omega (arith, none));
       }
 
 -- ---- turns end

@@ -39,9 +39,13 @@ module _ (old new : Machine) (run_is : IsRun old) where
   quiet none = ap (λ (s : State). s.output) (turn-still old.state pick (goes ∙ none) ∙ run_is)
 
   module _ (a : Answer) (out_old out_new : Option Bytes) (image : new.image ≡ old.image) (grant : new.grant ≡ old.grant) (lanes : new.state.lanes ≡ old.state.lanes) (seed : new.seed ≡ old.seed)
-      (turns : new.turns ≡ old.turns + turns_by old.state.out_of (Ok a)) (takes : Takes (turn old.state pick) (Ok a) old.state new.state out_old out_new) where
+      (turns : new.turns ≡ old.turns + turns_by old.state.out_of (Ok a)) (takes : Takes (turn old.state pick) (Ok a) old.state new.state out_old out_new)
+      (unchanged : turns_by old.state.out_of (Ok a) ≡ 0 → new ≡ old) where
+    told : unless_out old.state.out_of (not_rest a) ≡ goes_on old old.turns
+    told = ap (λ (x : Answer). unless_out old.state.out_of (not_rest x)) takes.1 ∙ goes
+
     counted : new.turns ≡ old.turns + (if goes_on old old.turns then 1 else 0)
-    counted = turns ∙ ap (λ (b : Bool). old.turns + (if b then 1 else 0)) (ap (λ (x : Answer). unless_out old.state.out_of (not_rest x)) takes.1 ∙ goes)
+    counted = turns ∙ ap (λ (b : Bool). old.turns + (if b then 1 else 0)) told
 
     pub after-turn : (b : Bool) → goes_on old old.turns ≡ b → IsAfter old new (one_if b)
     after-turn true h = record {
@@ -51,6 +55,7 @@ module _ (old new : Machine) (run_is : IsRun old) where
       seed = seed;
       turns_are = counted ∙ ap (λ (x : Bool). old.turns + (if x then 1 else 0)) h;
       state = takes.0 ∙ ap (λ (x : State × Answer). unwritten x.0) same ∙ sym (state-next old old.turns) ∙ (let e : suc old.turns ≡ old.turns + 1 = omega arith in ap (state_at old) e);
+      same = λ none. absurd (omega (arith, none));
     }
     after-turn false h = record {
       image = image;
@@ -59,6 +64,7 @@ module _ (old new : Machine) (run_is : IsRun old) where
       seed = seed;
       turns_are = counted ∙ ap (λ (x : Bool). old.turns + (if x then 1 else 0)) h;
       state = takes.0 ∙ ap unwritten (turn-still old.state pick (goes ∙ h) ∙ run_is) ∙ (let e : old.turns ≡ old.turns + 0 = omega arith in ap (state_at old) e);
+      same = λ none. unchanged (ap (λ (x : Bool). if x then 1 else 0) (told ∙ h));
     }
 
     pub journal-turn : (b : Bool) → goes_on old old.turns ≡ b → new.state.journal ≡ old.state.journal ++ if_more b (entries_at old old.turns)
@@ -81,16 +87,16 @@ module _ (old new : Machine) (run_is : IsRun old) where
 
 -- a debugger's machine took a turn, or there was none
 pub took-turn : (old new : Debugged) (a : Answer) (out_old out_new : Option Bytes) → IsRun old.machine → new.machine.image ≡ old.machine.image → new.machine.grant ≡ old.machine.grant → new.machine.state.lanes ≡ old.machine.state.lanes → new.machine.seed ≡ old.machine.seed
-    → new.machine.turns ≡ old.machine.turns + turns_by old.machine.state.out_of (Ok a) → Takes (turn old.machine.state (pick_at old.machine old.machine.turns)) (Ok a) old.machine.state new.machine.state out_old out_new → new.began ≡ old.began
+    → new.machine.turns ≡ old.machine.turns + turns_by old.machine.state.out_of (Ok a) → Takes (turn old.machine.state (pick_at old.machine old.machine.turns)) (Ok a) old.machine.state new.machine.state out_old out_new → (turns_by old.machine.state.out_of (Ok a) ≡ 0 → new.machine ≡ old.machine) → new.began ≡ old.began
     → (more : Bool) → more ≡ nat_lt old.machine.turns new.machine.turns → TookTurn old new out_old out_new more
-took-turn old new a out_old out_new run_is image grant lanes seed turns takes began more is =
-    let was : goes_on old.machine old.machine.turns ≡ more = sym (is ∙ told-turn old.machine new.machine run_is a out_old out_new image grant lanes seed turns takes) in
+took-turn old new a out_old out_new run_is image grant lanes seed turns takes unchanged began more is =
+    let was : goes_on old.machine old.machine.turns ≡ more = sym (is ∙ told-turn old.machine new.machine run_is a out_old out_new image grant lanes seed turns takes unchanged) in
     record {
       was = was;
-      machine = after-turn old.machine new.machine run_is a out_old out_new image grant lanes seed turns takes more was;
+      machine = after-turn old.machine new.machine run_is a out_old out_new image grant lanes seed turns takes unchanged more was;
       began = began;
-      journal = journal-turn old.machine new.machine run_is a out_old out_new image grant lanes seed turns takes more was;
-      out = out-turn old.machine new.machine run_is a out_old out_new image grant lanes seed turns takes more was;
+      journal = journal-turn old.machine new.machine run_is a out_old out_new image grant lanes seed turns takes unchanged more was;
+      out = out-turn old.machine new.machine run_is a out_old out_new image grant lanes seed turns takes unchanged more was;
     }
 
 -- its device could not write

@@ -172,7 +172,7 @@ last_text d (Back count) k = event_lines (keep_last count (kept d))
 
 -- ---- what a call leaves
 
--- the machine after so many turns of its run
+-- the machine after so many turns of its run; after none it is as it was, its memory too
 pub record IsAfter (old new : Machine) (turns : ℕ) : Type 0 where
   pub image : new.image ≡ old.image
   pub grant : new.grant ≡ old.grant
@@ -180,6 +180,7 @@ pub record IsAfter (old new : Machine) (turns : ℕ) : Type 0 where
   pub seed : new.seed ≡ old.seed
   pub turns_are : new.turns ≡ old.turns + turns
   pub state : new.state ≡ state_at old (old.turns + turns)
+  pub same : turns ≡ 0 → new ≡ old
 
 -- turns were taken, each of which writes this, and then this was written
 module _ (enough : ℕ → Bool) (text last : ℕ → Bytes) (old new : Debugged) (out_old out_new : Option Bytes) where

@@ -33,7 +33,7 @@ entries_from-added-requires g c =
     let run : IsRun m = c.turns-turns.ensures.run ∙ ap (state_at m) c.turns-turns.ensures.value in
     let e = c.in_ok-_answer.ensures in
     let w = g.K.Sink.written in
-    let took = took-turn old new c.in_ok-_answer._answer (w c.args.out.now) (w c.turn.new.out) run e.image e.grant e.lanes e.seed e.turns e.turn refl (nat_lt m.turns c.turn.new.self.turns) refl in
+    let took = took-turn old new c.in_ok-_answer._answer (w c.args.out.now) (w c.turn.new.out) run e.image e.grant e.lanes e.seed e.turns e.turn e.unchanged refl (nat_lt m.turns c.turn.new.self.turns) refl in
     let more = grows old new (w c.args.out.now) (w c.turn.new.out) (nat_lt m.turns c.turn.new.self.turns) took in
     let before = ap length c.journal-ended.ensures.value in
     let now = ap length c.journal.ensures.value in
@@ -48,7 +48,7 @@ invariant_of-self-2 g c =
     let run : IsRun m = c.turns-turns.ensures.run ∙ ap (state_at m) c.turns-turns.ensures.value in
     let e = c.in_ok-_answer.ensures in
     let w = g.K.Sink.written in
-    let took = took-turn old new c.in_ok-_answer._answer (w c.args.out.now) (w c.turn.new.out) run e.image e.grant e.lanes e.seed e.turns e.turn refl (nat_lt m.turns c.turn.new.self.turns) refl in
+    let took = took-turn old new c.in_ok-_answer._answer (w c.args.out.now) (w c.turn.new.out) run e.image e.grant e.lanes e.seed e.turns e.turn e.unchanged refl (nat_lt m.turns c.turn.new.self.turns) refl in
     let added = c.entries_from-added.result.now in
     let cut : added ≡ drop (length m.state.journal) c.turn.new.self.state.journal =
     c.entries_from-added.ensures ∙ ap (λ (j : List Entry). drop (length j) c.journal.result.now) c.journal-ended.ensures.value ∙ ap (drop (length m.state.journal)) c.journal.ensures.value in
@@ -67,5 +67,5 @@ returns-clause-turns g c =
     let w = g.K.Sink.written in
     let more = nat_lt c.turns-turns.result c.turns.result in
     let told : more ≡ nat_lt m.turns c.turn.new.self.turns = ap (λ (n : ℕ). nat_lt n c.turns.result) c.turns-turns.ensures.value ∙ ap (nat_lt m.turns) c.turns.ensures.value in
-    let took = took-turn old new c.in_ok-_answer._answer (w c.args.out.now) (w c.turn.new.out) run e.image e.grant e.lanes e.seed e.turns e.turn refl more told in
+    let took = took-turn old new c.in_ok-_answer._answer (w c.args.out.now) (w c.turn.new.out) run e.image e.grant e.lanes e.seed e.turns e.turn e.unchanged refl more told in
     subst (λ (d : Debugged). TookTurn d new (w c.args.out.now) (w c.turn.new.out) more) c.self.view_is took
