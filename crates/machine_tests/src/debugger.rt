@@ -1,7 +1,7 @@
 // Commands of a debugger.
 use cap_words::{Quad, Word};
 use hum_outside::MemSink;
-use instr_table::{Op, Quota, encode};
+use instr_table::{Op, encode};
 use quad_debug::{Command, Debug, Place, ScriptError, WriteFault, read_script};
 use quad_memory::{Image, NoMemory};
 use std::alloc::Global;
@@ -15,8 +15,10 @@ fn rom(rt: &impl Abort, n: u32) -> Word {
     Word::rom_bits(n).expect(rt, "a ROM word")
 }
 
-// Message 0 sends 42 to a device.
+// Message 0 sends 42 to a device, 1 or 2.
 fn sends(rt: &impl Abort, alloc: Global, device: i32) -> Result<Vec<Quad>, NoMemory> {
+    assert!(rt; device > 0);
+    assert!(rt; device < 3);
     let number = Word::fix(42).expect(rt, "a number");
     let cells = vec![in alloc;
         encode(Op::Push(number), rom(rt, 17)),
@@ -40,6 +42,12 @@ fn debugger(
     Debug::start(alloc, machine)
 }
 
+// Reads a script, which is short.
+fn read(rt: &impl Abort, alloc: Global, script: &str) -> Result<Vec<Command>, ScriptError> {
+    assert!(rt; script.len() < 1000);
+    read_script(alloc, script.as_bytes())
+}
+
 // Obeys each command of a script, and gives what was written.
 fn told(
     rt: &impl Abort,
@@ -48,137 +56,173 @@ fn told(
     script: &str,
 ) -> Result<MemSink, NoMemory> {
     let mut out = MemSink::with_room(alloc, 10_000, 100, Vec::new(alloc))?;
-    let commands = read_script(alloc, script.as_bytes()).expect(rt, "a script");
+    let commands = read(rt, alloc, script).expect(rt, "a script");
     for command in &commands {
         assert!(rt; debug.obey(*command, &mut out).is_ok());
     }
     Ok(out)
 }
 
-// The device (1 is `println`, 2 is `say`) and the cycles; a script, and what obeying it writes.
-const ROWS: [(i32, u32, &str, &str); 9] = [
-    (
-        1,
-        100,
-        "queue\nevent 1\nqueue\nevent 5\nback 2\n",
-        "* ready 0\n* event 0 committed\n* ready 1\n42\n* event 1 committed\n* rest\n* event 0 committed\n* event 1 committed\n",
-    ),
-    (
-        1,
-        100,
-        "step 0\nstep 3\nstep 10\nstep 1\nevent 0\nbreak 1\nbreak 7",
-        "* turn 0\n* turn 3\n42\n* turn 6\n* turn 6\n* rest\n* rest\n* rest\n",
-    ),
-    (
-        1,
-        100,
-        "event 0\nbreak 0\nbreak 0\nbreak 1\n",
-        "* in flight 0\n* in flight 0\n* event 0 committed\n42\n* event 1 committed\n",
-    ),
-    (
-        2,
-        100,
-        "event 2\nback 1\n",
-        "* event 0 committed\n* event 1 failed: device refused\n* event 1 failed: device refused\n",
-    ),
-    (
-        1,
-        3,
-        "event 1\nevent 1\nbreak 0\nbreak 9\nback 64\nstep 5\n",
-        "* event 0 spent cycles\n* spent\n* spent\n* spent\n* spent\n* event 0 spent cycles\n* turn 5\n",
-    ),
-    (
-        1,
-        100,
-        "show rom 15\nshow rom 16\nshow rom 20\nshow ram 6\nshow ram 8",
-        "* rom 15 none\n* rom 16 00000009 80000000 8000002A 00000011\n* rom 20 none\n* ram 6 00000006 00000010 20000005 00000000\n* ram 8 none\n",
-    ),
-    (
-        1,
-        100,
-        "step 2\nsheet\n",
-        "* turn 2\n* sponsor 0 memory received 1000 passed 0 spent 1 held 999\n* sponsor 0 events received 200 passed 0 spent 0 held 200\n* sponsor 0 cycles received 100 passed 0 spent 1 held 99\n",
-    ),
-    (1, 100, " step\t1 \r\n\n  \t\nqueue", "* turn 1\n"),
-    (
-        1,
-        100,
-        "event 2\nevent 1",
-        "* event 0 committed\n42\n* event 1 committed\n* rest\n",
-    ),
-];
+// Obeying a script writes that, where message 0 sends 42 to that device (1 is `println`, 2 is `say`) under so many cycles.
+fn tells(
+    rt: &impl Abort,
+    alloc: Global,
+    device: i32,
+    cycles: u32,
+    script: &str,
+    text: &str,
+) -> Result<(), NoMemory> {
+    let cells = sends(rt, alloc, device)?;
+    let mut debug = debugger(rt, alloc, cells, cycles)?;
+    let out = told(rt, alloc, &mut debug, script)?;
+    assert_eq!(rt; out.bytes(), text.as_bytes());
+    Ok(())
+}
 
 #[test]
 fn scripts_are_obeyed(rt: HostRuntime) -> Result<(), Fail> {
     let alloc = rt.alloc();
-    for (device, cycles, script, text) in ROWS {
-        let cells = sends(&rt, alloc, device)?;
-        let mut debug = debugger(&rt, alloc, cells, cycles)?;
-        let out = told(&rt, alloc, &mut debug, script)?;
-        assert_eq!(rt; out.bytes(), text.as_bytes());
-    }
+    tells(
+        &rt,
+        alloc,
+        1,
+        100,
+        "queue\nevent 1\nqueue\nevent 5\nback 2\n",
+        "* ready 0\n* event 0 committed\n* ready 1\n42\n* event 1 committed\n* rest\n* event 0 committed\n* event 1 committed\n",
+    )?;
+    tells(
+        &rt,
+        alloc,
+        1,
+        100,
+        "step 0\nstep 3\nstep 10\nstep 1\nevent 0\nbreak 1\nbreak 7",
+        "* turn 0\n* turn 3\n42\n* turn 6\n* turn 6\n* rest\n* rest\n* rest\n",
+    )?;
+    tells(
+        &rt,
+        alloc,
+        1,
+        100,
+        "event 0\nbreak 0\nbreak 0\nbreak 1\n",
+        "* in flight 0\n* in flight 0\n* event 0 committed\n42\n* event 1 committed\n",
+    )?;
+    tells(
+        &rt,
+        alloc,
+        2,
+        100,
+        "event 2\nback 1\n",
+        "* event 0 committed\n* event 1 failed: device refused\n* event 1 failed: device refused\n",
+    )?;
+    tells(
+        &rt,
+        alloc,
+        1,
+        3,
+        "event 1\nevent 1\nbreak 0\nbreak 9\nback 64\nstep 5\n",
+        "* event 0 spent cycles\n* spent\n* spent\n* spent\n* spent\n* event 0 spent cycles\n* turn 5\n",
+    )?;
+    tells(
+        &rt,
+        alloc,
+        1,
+        100,
+        "show rom 15\nshow rom 16\nshow rom 20\nshow ram 6\nshow ram 8",
+        "* rom 15 none\n* rom 16 00000009 80000000 8000002A 00000011\n* rom 20 none\n* ram 6 00000006 00000010 20000005 00000000\n* ram 8 none\n",
+    )?;
+    tells(
+        &rt,
+        alloc,
+        1,
+        100,
+        "step 2\nsheet\n",
+        "* turn 2\n* sponsor 0 memory received 1000 passed 0 spent 1 held 999\n* sponsor 0 events received 200 passed 0 spent 0 held 200\n* sponsor 0 cycles received 100 passed 0 spent 1 held 99\n",
+    )?;
+    tells(
+        &rt,
+        alloc,
+        1,
+        100,
+        " step\t1 \r\n\n  \t\nqueue",
+        "* turn 1\n",
+    )?;
+    tells(
+        &rt,
+        alloc,
+        1,
+        100,
+        "event 2\nevent 1",
+        "* event 0 committed\n42\n* event 1 committed\n* rest\n",
+    )?;
     Ok(())
 }
 
-// Which call on out fails; what then stands there, how many entries the journal has, and what the next `event 9` writes.
-const FAULTS: [(u64, &str, usize, &str); 3] = [
-    (0, "", 1, "42\n* event 1 committed\n* rest\n"),
-    (
-        21,
-        "* event 0 committed\n4",
-        1,
-        "42\n* event 1 committed\n* rest\n",
-    ),
-    (25, "* event 0 committed\n42\n* ", 2, "* rest\n"),
-];
+// The write of that number fails on a sink that takes a byte a call: this then stands there, and the next command writes the rest.
+fn goes_on(
+    rt: &impl Abort,
+    alloc: Global,
+    call: u64,
+    text: &str,
+    rest: &str,
+) -> Result<(), NoMemory> {
+    let mut debug = debugger(rt, alloc, sends(rt, alloc, 1)?, 100)?;
+    let mut out = MemSink::with_room(alloc, 100, 1, vec![in alloc; call]?)?;
+    assert!(rt; debug.obey(Command::Event(9), &mut out) == Err(WriteFault));
+    assert_eq!(rt; out.bytes(), text.as_bytes());
+    let mut out = MemSink::with_room(alloc, 100, 100, Vec::new(alloc))?;
+    assert!(rt; debug.obey(Command::Event(9), &mut out).is_ok());
+    assert_eq!(rt; out.bytes(), rest.as_bytes());
+    Ok(())
+}
 
 #[test]
 fn a_write_fails_and_the_next_command_goes_on(rt: HostRuntime) -> Result<(), Fail> {
     let alloc = rt.alloc();
-    for (call, text, entries, rest) in FAULTS {
-        let mut debug = debugger(&rt, alloc, sends(&rt, alloc, 1)?, 100)?;
-        let mut out = MemSink::with_room(alloc, 100, 1, vec![in alloc; call]?)?;
-        assert!(rt; debug.obey(Command::Event(9), &mut out) == Err(WriteFault));
-        assert_eq!(rt; out.bytes(), text.as_bytes());
-        let mut out = MemSink::with_room(alloc, 100, 100, Vec::new(alloc))?;
-        assert!(rt; debug.obey(Command::Event(9), &mut out).is_ok());
-        assert_eq!(rt; out.bytes(), rest.as_bytes());
-        let machine = debug.end();
-        assert!(rt; machine.journal().len() >= entries);
-    }
+    goes_on(&rt, alloc, 0, "", "42\n* event 1 committed\n* rest\n")?;
+    goes_on(
+        &rt,
+        alloc,
+        21,
+        "* event 0 committed\n4",
+        "42\n* event 1 committed\n* rest\n",
+    )?;
+    goes_on(&rt, alloc, 25, "* event 0 committed\n42\n* ", "* rest\n")?;
     Ok(())
 }
 
-// Scripts that are refused, and the first line that is neither blank nor a command.
-const REFUSED: [(&str, u32); 16] = [
-    ("walk 3", 1),
-    ("step 1\r\nstep\n", 2),
-    ("\n\nstep 1 2", 3),
-    ("step 1234567890", 1),
-    ("step -1", 1),
-    ("step", 1),
-    ("queue 1", 1),
-    ("back 0", 1),
-    ("back 65", 1),
-    ("show 5", 1),
-    ("show rim 5", 1),
-    ("show rom x", 1),
-    ("show rom 1 2", 1),
-    ("queue ; now", 1),
-    ("queue\nqueue\r", 2),
-    ("Queue", 1),
-];
+// A script is refused, and this is its first line that is neither blank nor a command.
+fn refuses(rt: &impl Abort, alloc: Global, script: &str, line: u32) {
+    let refused = read(rt, alloc, script);
+    assert!(rt; matches!(refused, Err(ScriptError::Refused { line: at }) if at == line));
+}
+
+#[test]
+fn scripts_are_refused(rt: HostRuntime) {
+    let alloc = rt.alloc();
+    refuses(&rt, alloc, "walk 3", 1);
+    refuses(&rt, alloc, "step 1\r\nstep\n", 2);
+    refuses(&rt, alloc, "\n\nstep 1 2", 3);
+    refuses(&rt, alloc, "step 1234567890", 1);
+    refuses(&rt, alloc, "step -1", 1);
+    refuses(&rt, alloc, "step", 1);
+    refuses(&rt, alloc, "queue 1", 1);
+    refuses(&rt, alloc, "back 0", 1);
+    refuses(&rt, alloc, "back 65", 1);
+    refuses(&rt, alloc, "show 5", 1);
+    refuses(&rt, alloc, "show rim 5", 1);
+    refuses(&rt, alloc, "show rom x", 1);
+    refuses(&rt, alloc, "show rom 1 2", 1);
+    refuses(&rt, alloc, "queue ; now", 1);
+    refuses(&rt, alloc, "queue\nqueue\r", 2);
+    refuses(&rt, alloc, "Queue", 1);
+}
 
 #[test]
 fn scripts_are_read(rt: HostRuntime) -> Result<(), Fail> {
     let alloc = rt.alloc();
-    for (script, line) in REFUSED {
-        let refused = read_script(alloc, script.as_bytes());
-        assert!(rt; matches!(refused, Err(ScriptError::Refused { line: at }) if at == line));
-    }
     let all =
         "step 000000001\nevent 999999999\nbreak 0\nshow rom 16\nshow ram 1\nqueue\nsheet\nback 64";
-    let commands = read_script(alloc, all.as_bytes()).expect(&rt, "a script");
+    let commands = read(&rt, alloc, all).expect(&rt, "a script");
     let wanted = [
         Command::Step(1),
         Command::Event(999_999_999),
@@ -190,7 +234,7 @@ fn scripts_are_read(rt: HostRuntime) -> Result<(), Fail> {
         Command::Back(64),
     ];
     assert!(rt; commands.as_slice() == wanted.as_slice());
-    let none = read_script(alloc, b"").expect(&rt, "an empty script");
+    let none = read(&rt, alloc, "").expect(&rt, "an empty script");
     assert!(rt; none.is_empty());
     Ok(())
 }
