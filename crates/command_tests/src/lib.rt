@@ -8,7 +8,11 @@ mod calls;
 #[cfg(test)]
 mod links;
 #[cfg(test)]
+mod listings;
+#[cfg(test)]
 mod machines;
+#[cfg(test)]
+mod outside;
 #[cfg(test)]
 mod runs;
 #[cfg(test)]

@@ -1,5 +1,5 @@
--- Where nothing fails, `link` and `exec` are done or refused.
-use Rattle.std.proofs.Common.{Bool, true, false, ◌≡◌, ◌⊎◌, ◌∙◌, ℕ, List, [], ◌∷◌, Option, Some, None, Ok, refl, sym, ap, subst, inl, inr, ⊎_elim, arith}
+-- Where nothing fails, each command is done or refused.
+use Rattle.std.proofs.Common.{Bool, true, false, ◌≡◌, ◌⊎◌, ◌∙◌, ℕ, List, [], ◌∷◌, codes, Option, Some, None, Ok, refl, sym, ap, subst, inl, inr, ⊎_elim, arith}
 use Rattle.hum_outside.specs.Outside.{told}
 use Rattle.quad_memory.specs.Image.{RomImage}
 use Rattle.uasm_image.specs.Refused.{IsRefusedAt}
@@ -13,17 +13,24 @@ use Rattle.hum_command.specs.Images.{Holds, HoldsNone, Loads, Unloaded, LinksAlo
 use Rattle.hum_run.specs.Drive.{written_by}
 use Rattle.hum_command.specs.Call.{Call, NotRead, Reads}
 use Rattle.hum_command.specs.MachineAnswers.{EndsRun}
+use Rattle.hum_front.specs.Accepted.{IsRefusal}
+use Rattle.hum_front.specs.declared.error.StartError.{StartError}
+use Rattle.hum_front.proofs.Programs.{never_both}
+use Rattle.hum_command.specs.Code.{is_assembled, HoldsCode}
+use Rattle.hum_command.specs.TextRefusals.{RefusesText}
+use Rattle.hum_command.specs.AsmAnswers.{ListsFile, AsmAnswers, AsmCompletes}
 use Rattle.hum_command.specs.LinkAnswers.{LinksFiles, RefusesFiles, LinkAnswers, LinkCompletes}
 use Rattle.hum_command.specs.ExecAnswers.{Executes, ExecAnswers, ExecCompletes}
-use Rattle.hum_command.specs.Words.{Request, Run, Link, Exec}
+use Rattle.hum_command.specs.Words.{Request, Run, Asm, Link, Exec, Chain}
+use Rattle.hum_command.specs.RunAnswers.{chain_file}
 use Rattle.hum_command.specs.Answers.{AnsweredTo, CompletesFor, status_of}
 use Rattle.hum_command.specs.declared.keys.Keys.{Keys}
 use Rattle.hum_command.specs.declared.refusal.Refusal.TheVariants.{FileTooLong, Image, Module}
 use Rattle.hum_command.specs.declared.refusal.Refusal.{Refusal}
 use Rattle.hum_command.specs.declared.answer.Answer.{Answer}
-use Rattle.hum_command.specs.declared.answer.Answer.TheVariants.{Done, Unread, Fault, Spent, Bound, NoMemory, EventFailed, Refused}
+use Rattle.hum_command.specs.declared.answer.Answer.TheVariants.{Done, Unread, TextRefused, Fault, Spent, Bound, NoMemory, EventFailed, Refused}
 use Rattle.hum_command.proofs.Texts.{told_there, same_texts}
-use Rattle.hum_command.proofs.RunComplete.{run_completes, reached, file_there, told_of, unbroken}
+use Rattle.hum_command.proofs.RunComplete.{run_completes, reached, file_there, told_of, unbroken, accepts}
 
 -- ---- `link`
 
@@ -104,19 +111,19 @@ module _ (name bytes : List ℕ) (keys : Keys) (c : Call) (is : told c.files nam
     exec_runs NoMemory a = inr (inr (inl refl))
     exec_runs EventFailed a = inr (inr (inr (inl refl)))
     exec_runs Bound a = let some = reached keys.bound a.machine.state a.ends.stops.1 in inr (inr (inr (inr (refl, some.0, some.1))))
-    exec_runs Unread a = absurd (file_there name bytes c is no_fault a.0)
-    exec_runs (Refused why) a = absurd (loaded why bytes image loads (told_of name bytes c is (Unloaded why) a.0.bytes a.0.text a.0.refused))
+    exec_runs Unread a = absurd (file_there (told c.files name) bytes c is no_fault a.0)
+    exec_runs (Refused why) a = absurd (loaded why bytes image loads (told_of (told c.files name) bytes is (Unloaded why) a.0.bytes a.0.text a.0.refused))
     exec_runs Fault a = absurd (unbroken keys.bound a.machine (written_by a.machine) c no_out no_err a.ends)
     exec_runs answer a = absurd a.ends
 
   module _ (why : Refusal) (un : Unloaded why bytes) where
     executes_none : (answer : Answer) → Executes name keys answer c → ⊥
-    executes_none answer e = loaded why bytes e.image (told_of name bytes c is (λ bs. Loads bs e.image) e.bytes e.text e.loads) un
+    executes_none answer e = loaded why bytes e.image (told_of (told c.files name) bytes is (λ bs. Loads bs e.image) e.bytes e.text e.loads) un
 
     exec_refused : (answer : Answer) → ExecAnswers name keys answer c → (status_of answer ≡ 10) ⊎ (status_of answer ≡ 7)
     exec_refused (Refused other) a = inl refl
     exec_refused NoMemory a = inr refl
-    exec_refused Unread a = absurd (file_there name bytes c is no_fault a.0)
+    exec_refused Unread a = absurd (file_there (told c.files name) bytes c is no_fault a.0)
     exec_refused answer a = absurd (executes_none answer a)
 
 exec_completes : (name : List ℕ) (keys : Keys) (answer : Answer) (c : Call) → ExecAnswers name keys answer c → ExecCompletes name keys (status_of answer) c
@@ -125,13 +132,70 @@ exec_completes name keys answer c a = record {
   refused = λ bytes why is un no_fault. exec_refused name bytes keys c is no_fault why un answer a;
 }
 
+-- ---- `asm`
+
+module _ (name bytes : List ℕ) (c : Call) (is : told c.files name ≡ Some (Some bytes)) (no_fault : Reads c) where
+  -- code is not refused
+  holds_code : (image : RomImage) → (assembled : Bool) → is_assembled name ≡ assembled → HoldsCode assembled bytes image
+      → (answer : Answer) → Faultless c.out → AsmAnswers name answer c → (status_of answer ≡ 0) ⊎ (status_of answer ≡ 7)
+  holds_code image assembled by holds Done no_out a = inl refl
+  holds_code image assembled by holds NoMemory no_out a = inr refl
+  holds_code image assembled by holds Unread no_out a = absurd (file_there (told c.files name) bytes c is no_fault a.0)
+  holds_code image assembled by holds Fault no_out a = absurd (no_out a.out.1)
+  holds_code image true by holds (Refused why) no_out a =
+      absurd (loaded why bytes image holds (told_of (told c.files name) bytes is (Unloaded why) a.1.bytes a.1.text a.1.refused))
+  holds_code image false by holds (Refused why) no_out a = let other = a.0 in absurd (cc)
+  holds_code image false by holds (TextRefused why) no_out a =
+      absurd (accepts bytes holds.tree why holds.accepted (told_of (told c.files name) bytes is (λ (bs : List ℕ). RefusesText bs why) a.1.text a.1.is_text a.1.refused))
+  holds_code image true by holds (TextRefused why) no_out a = let other = a.0 in absurd (cc)
+  holds_code image assembled by holds answer no_out a = absurd a
+
+  listed_code : (Writing : Writes → List ℕ → Type 0) (assembled : Bool) → is_assembled name ≡ assembled → (l : ListsFile name Writing c) → HoldsCode assembled bytes l.image
+  listed_code Writing assembled by l = subst (λ (x : Bool). HoldsCode x bytes l.image) by
+      (told_of (told c.files name) bytes is (λ bs. HoldsCode (is_assembled name) bs l.image) l.bytes l.read l.holds)
+
+  module _ (why : StartError) (by : is_assembled name ≡ false) (refusal : IsRefusal bytes why) where
+    lists_no_text : (Writing : Writes → List ℕ → Type 0) → ListsFile name Writing c → ⊥
+    lists_no_text Writing l = let holds = listed_code Writing false by l in never_both bytes holds.tree why holds.accepted refusal
+
+    asm_refused_text : (answer : Answer) → AsmAnswers name answer c → (status_of answer ≡ 3) ⊎ (status_of answer ≡ 7)
+    asm_refused_text (TextRefused other) a = inl refl
+    asm_refused_text NoMemory a = inr refl
+    asm_refused_text Unread a = absurd (file_there (told c.files name) bytes c is no_fault a.0)
+    asm_refused_text (Refused other) a = let no = a.0 in absurd (cc)
+    asm_refused_text Done a = absurd (lists_no_text Wrote a)
+    asm_refused_text Fault a = absurd (lists_no_text WroteFront a)
+    asm_refused_text answer a = absurd a
+
+  module _ (why : Refusal) (by : is_assembled name ≡ true) (un : Unloaded why bytes) where
+    lists_no_image : (Writing : Writes → List ℕ → Type 0) → ListsFile name Writing c → ⊥
+    lists_no_image Writing l = loaded why bytes l.image (listed_code Writing true by l) un
+
+    asm_refused : (answer : Answer) → AsmAnswers name answer c → (status_of answer ≡ 10) ⊎ (status_of answer ≡ 7)
+    asm_refused (Refused other) a = inl refl
+    asm_refused NoMemory a = inr refl
+    asm_refused Unread a = absurd (file_there (told c.files name) bytes c is no_fault a.0)
+    asm_refused (TextRefused other) a = let no = a.0 in absurd (cc)
+    asm_refused Done a = absurd (lists_no_image Wrote a)
+    asm_refused Fault a = absurd (lists_no_image WroteFront a)
+    asm_refused answer a = absurd a
+
+asm_completes : (name : List ℕ) (answer : Answer) (c : Call) → AsmAnswers name answer c → AsmCompletes name (status_of answer) c
+asm_completes name answer c a = record {
+  done = λ bytes image is holds no_fault no_out. holds_code name bytes c is no_fault image (is_assembled name) refl holds answer no_out a;
+  refused_text = λ text why is by refusal no_fault. asm_refused_text name text c is no_fault why by refusal answer a;
+  refused = λ bytes why is by un no_fault. asm_refused name bytes c is no_fault why by un answer a;
+}
+
 -- ---- each command
 
 completes_for : (request : Option Request) (answer : Answer) (c : Call) → AnsweredTo request answer c → CompletesFor request (status_of answer) c
 completes_for None answer c a = ap status_of a.0
-completes_for (Some (Run name keys)) answer c a = run_completes name keys answer c a
+completes_for (Some (Run name keys)) answer c a = run_completes (told c.files name) name keys c answer a
+completes_for (Some (Asm name)) answer c a = asm_completes name answer c a
 completes_for (Some (Link names)) answer c a = link_completes names answer c a
 completes_for (Some (Exec name keys)) answer c a = exec_completes name keys answer c a
+completes_for (Some (Chain n keys)) answer c a = run_completes (chain_file n) (codes "chain") keys c answer a.1
 
 pub completes : (request : Option Request) (answer : Answer) (status : ℕ) (c : Call) → status ≡ status_of answer → AnsweredTo request answer c → CompletesFor request status c
 completes request answer status c is a = subst (λ (n : ℕ). CompletesFor request n c) (sym is) (completes_for request answer c a)

@@ -106,7 +106,7 @@ fn number_from(digits: &[u8]) -> Option<u32>
     Some(number)
 }
 
-fn number_of(digits: &[u8]) -> Option<u32>
+pub fn number_of(digits: &[u8]) -> Option<u32>
     ensures { result ≡ spec.number_of digits.now }
 {
     if digits.len() >= 1 && digits.len() <= 10 {

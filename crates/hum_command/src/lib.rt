@@ -4,6 +4,8 @@
 #![tactic(auto)]
 
 mod answer;
+mod asm;
+mod chain;
 mod ending;
 mod exec;
 mod keys;
@@ -17,5 +19,6 @@ mod run;
 mod top;
 mod words;
 
+pub use chain::chain_text;
 pub use record::Record;
 pub use top::humus_main;
