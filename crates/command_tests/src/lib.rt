@@ -6,6 +6,8 @@
 #[cfg(test)]
 mod calls;
 #[cfg(test)]
+mod debugging;
+#[cfg(test)]
 mod links;
 #[cfg(test)]
 mod listings;

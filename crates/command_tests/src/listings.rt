@@ -32,7 +32,12 @@ fn listings_of_files(rt: HostRuntime) -> Result<(), Fail> {
     let alloc = rt.alloc();
     for (name, bytes, out, err, status) in FILES {
         let file = named(alloc, name, bytes)?;
-        let got = call_over(alloc, &["asm", name], vec![in alloc; file]?, &[&[], &[], &[]])?;
+        let got = call_over(
+            alloc,
+            &["asm", name],
+            vec![in alloc; file]?,
+            &[&[], &[], &[]],
+        )?;
         assert_eq!(rt; got.err.bytes(), err.as_bytes());
         assert_eq!(rt; got.out.bytes(), out.as_bytes());
         assert_eq!(rt; got.status, status);
@@ -46,7 +51,12 @@ fn listings_of_files(rt: HostRuntime) -> Result<(), Fail> {
 fn a_listing_runs(rt: HostRuntime) -> Result<(), Fail> {
     let alloc = rt.alloc();
     let text = named(alloc, "f.hum", b"SEND 42 TO println")?;
-    let listed = call_over(alloc, &["asm", "f.hum"], vec![in alloc; text]?, &[&[], &[], &[]])?;
+    let listed = call_over(
+        alloc,
+        &["asm", "f.hum"],
+        vec![in alloc; text]?,
+        &[&[], &[], &[]],
+    )?;
     assert_eq!(rt; listed.status, 0);
     let got = exec_over(alloc, &[], listed.out.bytes(), &[&[], &[], &[]])?;
     assert_eq!(rt; got.out.bytes(), b"42\n".as_slice());
@@ -56,7 +66,12 @@ fn a_listing_runs(rt: HostRuntime) -> Result<(), Fail> {
     );
     assert_eq!(rt; got.status, 0);
     let module = named(alloc, "l.asm", listed.out.bytes())?;
-    let again = call_over(alloc, &["asm", "l.asm"], vec![in alloc; module]?, &[&[], &[], &[]])?;
+    let again = call_over(
+        alloc,
+        &["asm", "l.asm"],
+        vec![in alloc; module]?,
+        &[&[], &[], &[]],
+    )?;
     assert_eq!(rt; again.out.bytes(), listed.out.bytes());
     Ok(())
 }

@@ -4,7 +4,7 @@ use Rattle.std.specs.Prelude.{decimal}
 use Rattle.std.specs.Fmt.{signed_decimal}
 use Rattle.std.specs.List.{concat}
 use Rattle.cap_words.specs.Words.{W, number_of}
-use Rattle.failure_lines.specs.Failure.{name_of, code_text, name_or_code, number_text, failure_text, line_with, failure_line}
+use Rattle.failure_lines.specs.Failure.{name_of, code_text, name_or_code, number_text, failure_text, line_with}
 
 module _ (w : W) (n : ℤ) (is : Some n ≡ number_of w) where
   -- it has a name

@@ -1,23 +1,27 @@
 -- Declined commands have their answers' causes.
-use Rattle.std.proofs.Common.{◌≡◌, Bool, true, false, ℕ, List, Option, Some, refl}
-use Rattle.hum_outside.specs.Outside.{told}
+use Rattle.std.proofs.Common.{◌≡◌, ◌≤◌, Bool, true, false, not, ℕ, List, [], ◌∷◌, Option, Some, refl, inl, inr, ⊎_elim}
+use Rattle.hum_outside.specs.Outside.{Files, told}
+use Rattle.hum_command.proofs.Gathers.{rose-later}
 use Rattle.quad_memory.specs.Image.{RomImage}
 use Rattle.uasm_image.specs.Spelled.{spelled}
 use Rattle.hum_command.specs.LinkParts.{LinkFails}
 use Rattle.hum_command.specs.Images.{LoadFails}
 use Rattle.hum_command.specs.Writes.{Silent}
-use Rattle.hum_command.specs.Texts.{IsText, HaveTexts}
+use Rattle.hum_command.specs.Texts.{IsText, HaveTexts, FileFails}
 use Rattle.hum_command.specs.Link.{LinkTo}
 use Rattle.hum_command.specs.Call.{Call, Declines, PutsAll}
 use Rattle.hum_command.specs.TextRefusals.{TextFails, StartFails}
 use Rattle.hum_command.specs.RunAnswers.{RunsFile, FileAnswers}
 use Rattle.hum_command.specs.Code.{is_assembled, HoldsCode, IsListing, CodeFails}
 use Rattle.hum_command.specs.AsmAnswers.{AsmAnswers}
+use Rattle.hum_command.specs.DebugAnswers.{HaveBoth, Debugs, DebugFails, DebugAnswers}
+use Rattle.hum_command.specs.DebugParts.{NotBooted, NotCommands}
+use Rattle.hum_command.specs.Debugging.{is_text}
 use Rattle.hum_command.specs.LinkAnswers.{LinkAnswers}
 use Rattle.hum_command.specs.ExecAnswers.{Executes, ExecAnswers}
 use Rattle.hum_command.specs.declared.keys.Keys.{Keys}
 use Rattle.hum_command.specs.declared.answer.Answer.{Answer}
-use Rattle.hum_command.specs.declared.answer.Answer.TheVariants.{Done, Unread, Fault, NoMemory, TextRefused, Refused}
+use Rattle.hum_command.specs.declared.answer.Answer.TheVariants.{Done, Unread, Fault, NoMemory, TextRefused, Refused, ScriptRefused}
 
 module _ (file : Option (Option (List ℕ))) (name : List ℕ) (keys : Keys) (c : Call) where
   pub declined_run : (answer : Answer) → StartFails c.faults_old c.faults_new file answer → Declines answer c name → FileAnswers file name keys answer c
@@ -72,6 +76,50 @@ module _ (names : List (List ℕ)) (c : Call) where
     linked Done puts = record { texts = texts; have = have; image = image; links = links; out = puts; silent = silent; last = last }
     linked Fault puts = record { texts = texts; have = have; image = image; links = links; out = puts; silent = silent; last = last }
     linked answer puts = absurd puts
+
+-- ---- `debug`
+
+module _ (name script : List ℕ) (keys : Keys) (c : Call) where
+  pub declined_debug : (answer : Answer) (x : List ℕ) → DebugFails c.files c.faults_old c.faults_new name script answer x → Declines answer c x
+      → DebugAnswers name script keys answer c
+  declined_debug Done x fails d = absurd fails
+  declined_debug Fault x fails d = absurd fails
+  declined_debug answer x fails d = (x, fails, d)
+
+  pub debugged : (answer : Answer) → Debugs name script keys answer c → DebugAnswers name script keys answer c
+  debugged Done d = d
+  debugged Fault d = d
+  debugged answer d = absurd d.ends
+
+module _ (files : Option Files) (before now : ℕ) (name script : List ℕ) where
+  pub unread_code : (answer : Answer) → FileFails before now (told files name) answer → DebugFails files before now name script answer name
+  unread_code Unread fails = (record { before = []; after = script ∷ []; split = refl; texts = []; have = tt }, fails)
+  unread_code NoMemory fails = tt
+  unread_code answer fails = absurd fails
+
+  pub unread_script : (between : ℕ) → before ≤ between → (bytes : List ℕ) → IsText (told files name) bytes → (answer : Answer)
+      → FileFails between now (told files script) answer → DebugFails files before now name script answer script
+  unread_script between later bytes is Unread fails = (
+    record { before = name ∷ []; after = []; split = refl; texts = bytes ∷ []; have = (is, tt) },
+    ⊎_elim (λ rose. inl (rose-later before between now later rose)) inr fails,
+  )
+  unread_script between later bytes is NoMemory fails = tt
+  unread_script between later bytes is answer fails = absurd fails
+
+  module _ (bytes lines : List ℕ) (have : HaveBoth files name script bytes lines) where
+    pub not_booted : (text : Bool) → is_text name ≡ text → (answer : Answer) → NotBooted (not text) bytes answer
+        → DebugFails files before now name script answer name
+    not_booted text is NoMemory why = tt
+    not_booted true is (TextRefused refusal) why = (refl, is, bytes, lines, have, why)
+    not_booted false is (Refused refusal) why = (refl, is, bytes, lines, have, why)
+    not_booted true is answer why = absurd why
+    not_booted false is answer why = absurd why
+
+    pub not_commands : (image : RomImage) → HoldsCode (not (is_text name)) bytes image → (answer : Answer) → NotCommands lines answer
+        → DebugFails files before now name script answer script
+    not_commands image holds NoMemory why = tt
+    not_commands image holds (ScriptRefused line) why = (refl, bytes, lines, have, image, holds, why)
+    not_commands image holds answer why = absurd why
 
 pub declined_exec : (answer : Answer) (c : Call) (name : List ℕ) (keys : Keys) → LoadFails c.faults_old c.faults_new (told c.files name) answer
     → Declines answer c name → ExecAnswers name keys answer c

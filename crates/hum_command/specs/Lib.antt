@@ -18,4 +18,7 @@ pub mod TextRefusals
 pub mod RunAnswers
 pub mod Code
 pub mod AsmAnswers
+pub mod Debugging
+pub mod DebugAnswers
+pub mod DebugParts
 pub mod Answers

@@ -62,6 +62,9 @@ pub const RUN_KEYS: [Key; 6] = [
     Key::Bound,
 ];
 
+/// The keys of a machine that is debugged.
+pub const DEBUG_KEYS: [Key; 5] = [Key::Memory, Key::Events, Key::Cycles, Key::Lanes, Key::Seed];
+
 impl Key {
     fn front(self) -> &'static [u8]
         ensures { result.now ≡ spec.front_of self }

@@ -6,6 +6,7 @@
 mod answer;
 mod asm;
 mod chain;
+mod debug;
 mod ending;
 mod exec;
 mod keys;

@@ -8,6 +8,7 @@ ghost use Rattle.hum_command.specs.RunAnswers.{RunAnswers, ChainAnswers};
 ghost use Rattle.hum_command.specs.AsmAnswers.{AsmAnswers};
 ghost use Rattle.hum_command.specs.LinkAnswers.{LinkAnswers};
 ghost use Rattle.hum_command.specs.ExecAnswers.{ExecAnswers};
+ghost use Rattle.hum_command.specs.DebugAnswers.{DebugAnswers};
 ghost use Rattle.hum_command.specs.Answers.{Answered, Completes, status_of};
 ghost use Rattle.hum_command.specs.declared.answer.Answer.{Answer as AnyAnswer};
 ghost use Rattle.hum_command.specs.declared.record.Record.{Record as AnyRecord};
@@ -15,6 +16,7 @@ ghost use Rattle.hum_command.specs.declared.record.Record.{Record as AnyRecord};
 use crate::answer::Answer;
 use crate::asm::list_file;
 use crate::chain::start_chain;
+use crate::debug::{Session, obey_all, read_session};
 use crate::exec::{booted, run_machine};
 use crate::keys::Keys;
 use crate::link::link_files;
@@ -24,7 +26,9 @@ use crate::report::refuse;
 use crate::run::{finish_run, start_file};
 use crate::words::{Command, command_of};
 use hum_outside::{Folder, Sink, put_all};
+use quad_debug::Debug;
 use std::alloc::Global;
+use vm_devices::WriteFault;
 
 // Runs the text that a file holds.
 fn run_file<F: Folder, K: Sink>(
@@ -187,6 +191,45 @@ fn exec_file<F: Folder, K: Sink>(
     }
 }
 
+// Obeys the commands of a script.
+fn debug_file<F: Folder, K: Sink>(
+    alloc: Global,
+    name: &str,
+    script: &str,
+    keys: Keys,
+    files: &mut F,
+    out: &mut K,
+    err: &mut K,
+    last: &mut Record,
+) -> Answer
+    requires { WithinLimits keys }
+    ensures answered { DebugAnswers name.now script.now keys result
+        (call F.files F.faults K.written K.faults files.old files.new out.old out.new err.old err.new last.old last.new) }
+    ensures files { F.files files.new ≡ F.files files.old }
+    ensures files_later { F.faults files.old ≤ F.faults files.new }
+    ensures out_later { K.faults out.old ≤ K.faults out.new }
+    ensures err_later { K.faults err.old ≤ K.faults err.new }
+{
+    let Session { machine, commands } = match read_session(alloc, files, name, script, keys) {
+        Ok(session) => session,
+        Err(declined) => {
+            refuse(err, &declined.answer, declined.name);
+            return declined.answer;
+        }
+    };
+    let Ok(debug) = Debug::start(alloc, machine) else {
+        refuse(err, &Answer::NoMemory, name);
+        return Answer::NoMemory;
+    };
+    let mut debug = debug;
+    let obeyed = obey_all(&mut debug, &commands, out);
+    last.leave_machine(debug.end());
+    match obeyed {
+        Ok(()) => Answer::Done,
+        Err(WriteFault) => Answer::Fault,
+    }
+}
+
 // Does what the words say.
 fn answer<F: Folder, K: Sink>(
     alloc: Global,
@@ -212,18 +255,22 @@ fn answer<F: Folder, K: Sink>(
         Some(Command::Asm(name)) => asm_to(alloc, name, files, out, err),
         Some(Command::Link(names)) => link_to(alloc, names, files, out, err),
         Some(Command::Exec(name, keys)) => exec_file(alloc, name, keys, files, out, err, last),
+        Some(Command::Debug(name, script, keys)) => {
+            debug_file(alloc, name, script, keys, files, out, err, last)
+        }
         Some(Command::Chain(n, keys)) => run_chain(alloc, n, keys, out, err, last),
     }
 }
 
 /// Does what the words say over these files and sinks, and gives the exit status; `last` is left the run or the machine, if one was started.
 ///
-/// The words are `run FILE KEYS`, `asm FILE`, `link FILE FILE ..`, `exec FILE KEYS` or `chain N KEYS`. The statuses, their causes and what each leaves are the definitions
-/// of specs/Answers: 0 done, 1 the words have no form, 2 a file could not be read, 3 a text is refused, 4 a write failed, 5 the root ran out, 6
-/// the bound is reached, 7 no memory, 9 an event failed, 10 an image, a module or linking is refused.
+/// The words are `run FILE KEYS`, `asm FILE`, `link FILE FILE ..`, `exec FILE KEYS`, `debug FILE SCRIPT KEYS` or `chain N KEYS`. The statuses,
+/// their causes and what each leaves are the definitions of specs/Answers: 0 done, 1 the words have no form, 2 a file could not be read, 3 a
+/// text is refused, 4 a write failed, 5 the root ran out, 6 the bound is reached, 7 no memory, 9 an event failed, 10 an image, a module or
+/// linking is refused, 11 a script is refused.
 ///
-/// For `run` and `chain`, out has exactly the output of the configuration that the deliveries of the machine's journal lead to, and err the lines of the
-/// events that failed and those that end the run; the run that is left stands for that configuration.
+/// For `run` and `chain`, out has exactly the output of the configuration that the deliveries of the machine's journal lead to, and err the
+/// lines of the events that failed and those that end the run; the run that is left stands for that configuration.
 pub fn humus_main<F: Folder, K: Sink>(
     alloc: Global,
     words: &[String],

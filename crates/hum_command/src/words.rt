@@ -4,7 +4,7 @@ ghost use Rattle.std.specs.Option.{option_map};
 ghost use Rattle.std.specs.List.{list_all};
 ghost use Rattle.hum_command.specs.Words as spec;
 
-use crate::keys::{Keys, RUN_KEYS, keys_of, number_of};
+use crate::keys::{DEBUG_KEYS, Keys, RUN_KEYS, keys_of, number_of};
 
 /// What the words ask for.
 #[derive(Clone, Copy, Debug, PartialEq, Eq)]
@@ -17,6 +17,8 @@ pub enum Command<'a> {
     Link(&'a [String]),
     /// `exec FILE KEYS`: an image or a module is run.
     Exec(&'a str, Keys),
+    /// `debug FILE SCRIPT KEYS`: a machine obeys the commands of a script.
+    Debug(&'a str, &'a str, Keys),
     /// `chain N KEYS`: the text of a chain of N actors is run.
     Chain(u32, Keys),
 }
@@ -77,6 +79,21 @@ fn exec_of(words: &[String]) -> Option<Command<'_>>
     }
 }
 
+fn debug_of(words: &[String]) -> Option<Command<'_>>
+    ensures value { option_map spec.request result ≡ spec.debug_of (map string_bytes words.now) }
+    ensures limits { IfSome result (λ command. spec.KeysFit (spec.request command)) }
+{
+    match words {
+        [name, script, keys @ ..] if !name.is_empty() && !script.is_empty() => {
+            match keys_of(&DEBUG_KEYS, keys) {
+                Some(keys) => Some(Command::Debug(name.as_str(), script.as_str(), keys)),
+                None => None,
+            }
+        }
+        _ => None,
+    }
+}
+
 fn chain_of(words: &[String]) -> Option<Command<'_>>
     ensures value { option_map spec.request result ≡ spec.chain_of (map string_bytes words.now) }
     ensures limits { IfSome result (λ command. spec.KeysFit (spec.request command)) }
@@ -106,6 +123,7 @@ pub fn command_of(words: &[String]) -> Option<Command<'_>>
             "asm" => asm_of(more),
             "link" => link_of(more),
             "exec" => exec_of(more),
+            "debug" => debug_of(more),
             "chain" => chain_of(more),
             _ => None,
         },

@@ -6,8 +6,8 @@ ghost use Rattle.vm_turn.specs.declared.journal.Entry.{Entry as Ended};
 ghost use Rattle.vm_turn.specs.declared.journal.Turn.TheVariants.{Finished};
 
 use crate::driven::Driven;
-use crate::failure::put_failure;
 use crate::stop::{Stop, WriteFault};
+use failure_lines::put_failure;
 use hum_outside::{Failed, Sink};
 use vm_machine::Machine;
 use vm_turn::{Entry, Outcome, Turn};
