@@ -1,5 +1,6 @@
 // The listings of code, and why files have none.
 use crate::calls::{BOOT, IMAGE, call_over, exec_over, named};
+use std::alloc::{AllocError, Global};
 use std::test::Fail;
 
 const LISTED: &str = ".export boot\nboot:\nend commit\n";
@@ -46,33 +47,32 @@ fn listings_of_files(rt: HostRuntime) -> Result<(), Fail> {
     Ok(())
 }
 
+// What `asm` writes of a file that holds these bytes.
+fn listing_of(alloc: Global, name: &str, bytes: &[u8]) -> Result<Vec<u8>, AllocError> {
+    let file = named(alloc, name, bytes)?;
+    let got = call_over(
+        alloc,
+        &["asm", name],
+        vec![in alloc; file]?,
+        &[&[], &[], &[]],
+    )?;
+    got.out.bytes().to_vec(alloc)
+}
+
 // The listing of a text's code is a module that does what the text does, and it lists as itself.
 #[test]
 fn a_listing_runs(rt: HostRuntime) -> Result<(), Fail> {
     let alloc = rt.alloc();
-    let text = named(alloc, "f.hum", b"SEND 42 TO println")?;
-    let listed = call_over(
-        alloc,
-        &["asm", "f.hum"],
-        vec![in alloc; text]?,
-        &[&[], &[], &[]],
-    )?;
-    assert_eq!(rt; listed.status, 0);
-    let got = exec_over(alloc, &[], listed.out.bytes(), &[&[], &[], &[]])?;
+    let listing = listing_of(alloc, "f.hum", b"SEND 42 TO println")?;
+    let got = exec_over(alloc, &[], &listing, &[&[], &[], &[]])?;
     assert_eq!(rt; got.out.bytes(), b"42\n".as_slice());
     assert_eq!(rt;
         got.err.bytes(),
         b"finished 2 committed 2 failed 0 spent 0 pending 0\n".as_slice()
     );
     assert_eq!(rt; got.status, 0);
-    let module = named(alloc, "l.asm", listed.out.bytes())?;
-    let again = call_over(
-        alloc,
-        &["asm", "l.asm"],
-        vec![in alloc; module]?,
-        &[&[], &[], &[]],
-    )?;
-    assert_eq!(rt; again.out.bytes(), listed.out.bytes());
+    let again = listing_of(alloc, "l.asm", &listing)?;
+    assert_eq!(rt; again.as_slice(), listing.as_slice());
     Ok(())
 }
 

@@ -1,9 +1,14 @@
 -- Declined commands have their answers' causes.
-use Rattle.std.proofs.Common.{◌≡◌, ◌≤◌, Bool, true, false, not, ℕ, List, [], ◌∷◌, Option, Some, refl, inl, inr, ⊎_elim}
+use Rattle.std.proofs.Common.{◌≡◌, ◌≤◌, Bool, true, false, not, ℕ, List, [], ◌∷◌, Option, Some, refl, subst, inl, inr, ⊎_elim}
 use Rattle.hum_outside.specs.Outside.{Files, told}
 use Rattle.hum_command.proofs.Gathers.{rose-later}
 use Rattle.quad_memory.specs.Image.{RomImage}
 use Rattle.uasm_image.specs.Spelled.{spelled}
+use Rattle.vm_machine.specs.Machine.{Machine}
+use Rattle.quad_debug.specs.Script.{commands_of}
+use Rattle.quad_debug.specs.Kept.{Debugged}
+use Rattle.quad_debug.specs.declared.command.Command.{Command}
+use Rattle.hum_command.specs.Grants.{grant_of}
 use Rattle.hum_command.specs.LinkParts.{LinkFails}
 use Rattle.hum_command.specs.Images.{LoadFails}
 use Rattle.hum_command.specs.Writes.{Silent}
@@ -15,8 +20,9 @@ use Rattle.hum_command.specs.RunAnswers.{RunsFile, FileAnswers}
 use Rattle.hum_command.specs.Code.{is_assembled, HoldsCode, IsListing, CodeFails}
 use Rattle.hum_command.specs.AsmAnswers.{AsmAnswers}
 use Rattle.hum_command.specs.DebugAnswers.{HaveBoth, Debugs, DebugFails, DebugAnswers}
-use Rattle.hum_command.specs.DebugParts.{NotBooted, NotCommands}
-use Rattle.hum_command.specs.Debugging.{is_text}
+use Rattle.hum_command.specs.DebugParts.{NotBooted, NotCommands, IsSession}
+use Rattle.hum_command.specs.Debugging.{is_text, debugs, EndsDebugging}
+use Rattle.hum_command.proofs.Debugging.{runs_to_end}
 use Rattle.hum_command.specs.LinkAnswers.{LinkAnswers}
 use Rattle.hum_command.specs.ExecAnswers.{Executes, ExecAnswers}
 use Rattle.hum_command.specs.declared.keys.Keys.{Keys}
@@ -90,6 +96,31 @@ module _ (name script : List ℕ) (keys : Keys) (c : Call) where
   debugged Done d = d
   debugged Fault d = d
   debugged answer d = absurd d.ends
+
+  module _ (machine : Machine) (commands : List Command) (session : IsSession c.files name script keys machine commands) where
+    pub debugs_in : (began end : Debugged) → began ≡ debugs machine → c.last_new ≡ record c.last_old { machine = Some end.machine } → Silent c.err
+        → (answer : Answer) → EndsDebugging answer commands began end c.out → Debugs name script keys answer c
+    debugs_in began end is left silent answer ends =
+        let ended : EndsDebugging answer (commands_of session.lines) (debugs machine) end c.out =
+        subst (λ (cs : List Command). EndsDebugging answer cs (debugs machine) end c.out) session.commands_are
+        (subst (λ (d : Debugged). EndsDebugging answer commands d end c.out) is ends) in
+        let image = session.boots.0 in
+        let boots = session.boots.2 in
+        record {
+          bytes = session.bytes;
+          lines = session.lines;
+          have = session.have;
+          image = image;
+          holds = session.boots.1;
+          formed = session.formed;
+          start = machine;
+          boots = boots;
+          end = end;
+          from = runs_to_end image (grant_of keys) keys.lanes keys.seed answer (commands_of session.lines) (debugs machine) end c.out boots.from ended;
+          left = left;
+          ends = ended;
+          silent = silent;
+        }
 
 module _ (files : Option Files) (before now : ℕ) (name script : List ℕ) where
   pub unread_code : (answer : Answer) → FileFails before now (told files name) answer → DebugFails files before now name script answer name

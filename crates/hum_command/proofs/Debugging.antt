@@ -1,5 +1,5 @@
 -- Commands that are obeyed one after another.
-use Rattle.std.proofs.Common.{◌≡◌, ◌∙◌, ◌+◌, ℕ, List, [], ◌∷◌, ◌++◌, Option, refl, sym, ap, subst}
+use Rattle.std.proofs.Common.{◌≡◌, ◌∙◌, ◌+◌, ℕ, List, [], ◌∷◌, ◌++◌, length, Option, refl, sym, ap, subst}
 use Rattle.quad_memory.specs.Image.{RomImage}
 use Rattle.vm_sponsor.specs.declared.amounts.Amounts.{Amounts}
 use Rattle.vm_turn.specs.State.{State}
@@ -7,8 +7,11 @@ use Rattle.vm_machine.specs.Machine.{Machine, drawn_run}
 use Rattle.quad_debug.specs.Kept.{Debugged}
 use Rattle.quad_debug.specs.Obeys.{Obeys, BreaksOff, IsAfter}
 use Rattle.quad_debug.specs.declared.command.Command.{Command}
-use Rattle.hum_run.specs.Drive.{RunsFrom}
-use Rattle.hum_command.specs.Debugging.{ObeysAll, BreaksOffIn}
+use Rattle.hum_run.specs.Drive.{RunsFrom, Fresh}
+use Rattle.hum_command.specs.Writes.{Writes}
+use Rattle.hum_command.specs.Debugging.{debugs, ObeysAll, BreaksOffIn, EndsDebugging}
+use Rattle.hum_command.specs.declared.answer.Answer.{Answer}
+use Rattle.hum_command.specs.declared.answer.Answer.TheVariants.{Done, Fault}
 
 -- one more was obeyed
 pub obeys-next : (commands : List Command) (command : Command) (old at new : Debugged) (out_old out_at out_new : Option (List ℕ))
@@ -44,3 +47,18 @@ module _ (image : RomImage) (grant : Amounts) (lanes seed : ℕ) where
       → BreaksOffIn commands old new out_old out_new → RunsFrom image grant lanes seed new.machine
   runs_broken commands old new out_old out_new runs b =
       runs_after b.at.machine new.machine b.breaks.completed (runs_on b.before old b.at out_old b.out_at runs b.obeyed) b.breaks.machine
+
+  pub runs_to_end : (answer : Answer) (commands : List Command) (old new : Debugged) (out : Writes) → RunsFrom image grant lanes seed old.machine
+      → EndsDebugging answer commands old new out → RunsFrom image grant lanes seed new.machine
+  runs_to_end Done commands old new out runs ends = runs_on commands old new out.old out.new runs ends
+  runs_to_end Fault commands old new out runs ends = runs_broken commands old new out.old out.new runs ends.0
+  runs_to_end answer commands old new out runs ends = absurd ends
+
+-- ---- where it began
+
+debugged_at : Machine → ℕ → Debugged
+debugged_at machine began = record { machine = machine; began = began }
+
+pub began_fresh : (d : Debugged) (machine : Machine) → d.machine ≡ machine → d.began ≡ length machine.state.journal → Fresh machine → d ≡ debugs machine
+began_fresh d machine same began fresh =
+    ap (λ (m : Machine). debugged_at m d.began) same ∙ ap (debugged_at machine) (began ∙ ap length fresh.journal)
