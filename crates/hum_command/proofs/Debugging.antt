@@ -60,5 +60,6 @@ debugged_at : Machine → ℕ → Debugged
 debugged_at machine began = record { machine = machine; began = began }
 
 pub began_fresh : (d : Debugged) (machine : Machine) → d.machine ≡ machine → d.began ≡ length machine.state.journal → Fresh machine → d ≡ debugs machine
+unfolding debugged_at
 began_fresh d machine same began fresh =
     ap (λ (m : Machine). debugged_at m d.began) same ∙ ap (debugged_at machine) (began ∙ ap length fresh.journal)

@@ -38,4 +38,4 @@ returns-clause-answered g c =
     (began_fresh began machine c.in-Ok-start.ensures.machine c.in-Ok-start.ensures.began session.boots.2.fresh)
     (subst (λ (m : Machine). c.leave_machine.new.self ≡ record a.last.now { machine = Some m }) c.end.ensures c.leave_machine.ensures)
     (refl {a = w a.err.now}) Fault
-    ((subst (λ (cs : List Command). BreaksOffIn cs began obeyed.new.debug (w a.out.now) (w obeyed.new.out)) c.deref.ensures.value c.in-Err-obeyed.ensures.breaks), c.in-Err-obeyed.ensures.cause)
+    ((subst (λ (cs : List Command). BreaksOffIn cs began obeyed.new.debug (w a.out.now) (w obeyed.new.out)) c.deref.ensures.value c.in-Err-obeyed.ensures.breaks), c.in-Err-obeyed.ensures.cause.failed)
