@@ -1,11 +1,10 @@
 -- Commands that are obeyed one after another.
-use Rattle.std.proofs.Common.{◌≡◌, ◌∙◌, ◌+◌, ℕ, List, [], ◌∷◌, ◌++◌, length, Option, refl, sym, ap, subst}
+use Rattle.std.proofs.Common.{◌≡◌, ◌∙◌, ℕ, List, [], ◌∷◌, ◌++◌, length, Option, refl, sym, ap, subst}
 use Rattle.quad_memory.specs.Image.{RomImage}
 use Rattle.vm_sponsor.specs.declared.amounts.Amounts.{Amounts}
-use Rattle.vm_turn.specs.State.{State}
-use Rattle.vm_machine.specs.Machine.{Machine, drawn_run}
+use Rattle.vm_machine.specs.Machine.{Machine}
 use Rattle.quad_debug.specs.Kept.{Debugged}
-use Rattle.quad_debug.specs.Obeys.{Obeys, BreaksOff, IsAfter}
+use Rattle.quad_debug.specs.Obeys.{Obeys, IsAfter}
 use Rattle.quad_debug.specs.declared.command.Command.{Command}
 use Rattle.hum_run.specs.Drive.{RunsFrom, Fresh}
 use Rattle.hum_command.specs.Writes.{Writes}

@@ -1,5 +1,5 @@
 -- A machine that obeys the commands of a script.
-use Rattle.std.specs.Prelude.{◌≡◌, ℕ, nat_le, nat_eq, Bool, true, false, if◌then◌else◌, List, [], ◌∷◌, ◌++◌, length, codes, Option, Some}
+use Rattle.std.specs.Prelude.{◌≡◌, ℕ, nat_le, nat_eq, Bool, if◌then◌else◌, List, [], ◌∷◌, ◌++◌, length, codes, Option, Some}
 use Rattle.std.specs.List.{ends_with}
 use Rattle.hum_outside.specs.Outside.{Rose}
 use Rattle.quad_memory.specs.Image.{RomImage}

@@ -1,4 +1,4 @@
-use Rattle.std.proofs.Common.{ℕ, ◌≤◌, IfSome, length, subst, ap, arith}
+use Rattle.std.proofs.Common.{◌≤◌, IfSome, length, subst, ap, arith}
 use Rattle.hum_command.proofs.debug.commands_in.Goals as goal
 
 pub read_script-requires : goal.read_script-requires

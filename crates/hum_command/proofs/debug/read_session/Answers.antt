@@ -1,9 +1,8 @@
-use Rattle.std.proofs.Common.{◌≡◌, ◌∙◌, ℕ, ◌<◌, ◌≤◌, Bool, not, List, length, Option, MatchOption, IfSome, sym, ap, subst, arith}
+use Rattle.std.proofs.Common.{◌≡◌, ℕ, ◌<◌, ◌≤◌, Bool, not, length, Option, MatchOption, IfSome, sym, subst}
 use Rattle.hum_outside.specs.Outside.{Files, told}
 use Rattle.hum_command.specs.Texts.{IsText, FileFails}
 use Rattle.hum_command.specs.Debugging.{BootsCode}
 use Rattle.hum_command.specs.DebugAnswers.{HaveBoth}
-use Rattle.hum_command.specs.DebugParts.{code_limit}
 use Rattle.hum_command.proofs.Texts.{read_within}
 use Rattle.hum_command.proofs.Causes.{unread_code, unread_script, not_booted, not_commands}
 use Rattle.hum_command.proofs.debug.read_session.Goals as goal

@@ -1,4 +1,4 @@
-use Rattle.std.proofs.Common.{◌≡◌, List, Option, Some, refl, subst}
+use Rattle.std.proofs.Common.{◌≡◌, List, Some, refl, subst}
 use Rattle.vm_machine.specs.Machine.{Machine}
 use Rattle.quad_debug.specs.declared.command.Command.{Command}
 use Rattle.hum_command.specs.Call.{call}
