@@ -1,4 +1,4 @@
-//! The tests of assembly texts, of linking and of images, a file for each crate.
+//! The tests of assembly texts, of linking, of images and of their listings.
 //!
 //! A crate that has tests is proved once more with them, so they stand here, above the crates that they call.
 #![tactic(auto)]
@@ -7,5 +7,7 @@
 mod images;
 #[cfg(test)]
 mod links;
+#[cfg(test)]
+mod listings;
 #[cfg(test)]
 mod texts;

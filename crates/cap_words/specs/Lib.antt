@@ -1,5 +1,6 @@
 pub mod Words
 pub mod Fixnums
+pub mod Laws
 pub mod Text
 pub mod Store
 pub mod Seen

@@ -33,7 +33,7 @@ pub fn call_over(
 ) -> Result<Outcome, AllocError> {
     let words = owned(alloc, words)?;
     let mut files = MemFolder::new(files, fails[0].to_vec(alloc)?);
-    let mut out = MemSink::with_room(alloc, 10_000, 1, fails[1].to_vec(alloc)?)?;
+    let mut out = MemSink::with_room(alloc, 50_000, 1, fails[1].to_vec(alloc)?)?;
     let mut err = MemSink::with_room(alloc, 200, 1, fails[2].to_vec(alloc)?)?;
     let mut last = Record::empty();
     let status = humus_main(alloc, &words, &mut files, &mut out, &mut err, &mut last);
@@ -63,5 +63,18 @@ pub fn exec_over(
     let mut words = vec![in alloc; "exec", "m.asm"]?;
     words.extend_from_slice(keys)?;
     let file = named(alloc, "m.asm", text)?;
+    call_over(alloc, &words, vec![in alloc; file]?, fails)
+}
+
+// The words `run f.hum` with these keys, over that text. The calls of the folder, of out and of err that are listed fail.
+pub fn run_over(
+    alloc: Global,
+    keys: &[&str],
+    text: &[u8],
+    fails: &[&[u64]; 3],
+) -> Result<Outcome, AllocError> {
+    let mut words = vec![in alloc; "run", "f.hum"]?;
+    words.extend_from_slice(keys)?;
+    let file = named(alloc, "f.hum", text)?;
     call_over(alloc, &words, vec![in alloc; file]?, fails)
 }

@@ -6,9 +6,15 @@
 #[cfg(test)]
 mod calls;
 #[cfg(test)]
+mod debugging;
+#[cfg(test)]
 mod links;
 #[cfg(test)]
+mod listings;
+#[cfg(test)]
 mod machines;
+#[cfg(test)]
+mod outside;
 #[cfg(test)]
 mod runs;
 #[cfg(test)]

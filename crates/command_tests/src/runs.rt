@@ -1,12 +1,13 @@
 // Texts that run, and those that are refused.
-use crate::calls::{Outcome, call_over, named, owned};
-use hum_command::{Record, humus_main};
+use crate::calls::{call_over, owned, run_over};
+use crate::words::USAGE;
+use hum_command::{Record, chain_text, humus_main};
 use hum_outside::{EndlessFolder, MemSink};
 use std::alloc::{AllocError, Global};
 use std::test::Fail;
 
 // Sends a number through two actors, which label it.
-const LABELS: &str = "LET label(tag, out) = \\m.[ SEND (tag, m) TO out ]
+pub const LABELS: &str = "LET label(tag, out) = \\m.[ SEND (tag, m) TO out ]
 CREATE a WITH label(#a, println)
 CREATE b WITH label(#b, a)
 SEND 7 TO b
@@ -192,19 +193,6 @@ const ROWS: [(&str, &[&str], &str, &str, u8); 19] = [
     ),
 ];
 
-// The words `run f.hum` with these keys, over that text. The calls of the folder, of out and of err that are listed fail.
-fn run_over(
-    alloc: Global,
-    keys: &[&str],
-    text: &[u8],
-    fails: &[&[u64]; 3],
-) -> Result<Outcome, AllocError> {
-    let mut words = vec![in alloc; "run", "f.hum"]?;
-    words.extend_from_slice(keys)?;
-    let file = named(alloc, "f.hum", text)?;
-    call_over(alloc, &words, vec![in alloc; file]?, fails)
-}
-
 #[test]
 fn texts_that_run(rt: HostRuntime) -> Result<(), Fail> {
     let alloc = rt.alloc();
@@ -383,5 +371,79 @@ fn the_run_that_is_left(rt: HostRuntime) -> Result<(), Fail> {
     assert_eq!(rt; machine.journal().len(), 3);
     assert_eq!(rt; machine.pending(), 1);
     assert!(rt; machine.queue().event(3).is_some());
+    Ok(())
+}
+
+// Whether `chain` with these words behind it writes that and ends so. What it left is dropped here: a test that held several answers would be too
+// large to be proved.
+fn chain_says(
+    alloc: Global,
+    words: &[&str],
+    out: &str,
+    err: &str,
+    status: u8,
+) -> Result<bool, AllocError> {
+    let mut all = vec![in alloc; "chain"]?;
+    all.extend_from_slice(words)?;
+    let got = call_over(alloc, &all, Vec::new(alloc), &[&[], &[], &[]])?;
+    Ok(
+        got.out.bytes() == out.as_bytes()
+            && got.err.bytes() == err.as_bytes()
+            && got.status == status
+            && got.last.run().is_some() == (status != 1),
+    )
+}
+
+#[test]
+fn chains_of_actors(rt: HostRuntime) -> Result<(), Fail> {
+    let alloc = rt.alloc();
+    let one = "finished 3 committed 3 failed 0 spent 0 pending 0\n";
+    assert!(rt; chain_says(alloc, &["1"], "1\n", one, 0)?);
+    let many = "finished 502 committed 502 failed 0 spent 0 pending 0\n";
+    assert!(rt; chain_says(alloc, &["500"], "500\n", many, 0)?);
+    let bound = "finished 12 committed 12 failed 0 spent 0 pending 1\n";
+    assert!(rt; chain_says(alloc, &["0012", "bound=12", "lanes=64"], "", bound, 6)?);
+    Ok(())
+}
+
+#[test]
+fn chains_without_a_form(rt: HostRuntime) -> Result<(), Fail> {
+    let alloc = rt.alloc();
+    for number in ["0", "2001", "a"] {
+        assert!(rt; chain_says(alloc, &[number], "", USAGE, 1)?);
+    }
+    assert!(rt; chain_says(alloc, &[], "", USAGE, 1)?);
+    Ok(())
+}
+
+#[test]
+fn the_text_of_a_chain(rt: HostRuntime) -> Result<(), Fail> {
+    let alloc = rt.alloc();
+    let text = chain_text(alloc, 2)?;
+    let lines = [
+        "LET fwd(next) = \\n.[ SEND add(n, 1) TO next ]\n",
+        "CREATE a1 WITH fwd(println)\n",
+        "CREATE a2 WITH fwd(a1)\n",
+        "SEND 0 TO a2\n",
+    ];
+    let mut wanted = String::new(alloc);
+    for line in lines {
+        wanted.push_str(line)?;
+    }
+    assert_eq!(rt; text.as_slice(), wanted.as_bytes());
+    Ok(())
+}
+
+#[test]
+fn the_longest_chain(rt: HostRuntime) -> Result<(), Fail> {
+    let alloc = rt.alloc();
+    let words = ["chain", "2000", "memory=4194304"];
+    let got = call_over(alloc, &words, Vec::new(alloc), &[&[], &[], &[]])?;
+    assert_eq!(rt; got.out.bytes(), b"2000\n".as_slice());
+    assert_eq!(rt;
+        got.err.bytes(),
+        b"finished 2002 committed 2002 failed 0 spent 0 pending 0\n".as_slice()
+    );
+    assert_eq!(rt; got.status, 0);
     Ok(())
 }

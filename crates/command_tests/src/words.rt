@@ -2,10 +2,10 @@
 use crate::calls::{BOOT, call_over, exec_over};
 use std::test::Fail;
 
-const USAGE: &str = "usage: humus COMMAND FILE.. [KEY=N..]\n";
+pub const USAGE: &str = "usage: humus COMMAND FILE.. [KEY=N..]\n";
 
 // Words without a form.
-const FORMLESS: [&[&str]; 14] = [
+const FORMLESS: [&[&str]; 17] = [
     &[],
     &["--help"],
     &["walk", "boot.asm"],
@@ -17,6 +17,9 @@ const FORMLESS: [&[&str]; 14] = [
     &["link", ""],
     &["link", "boot.asm", ""],
     &["links", "boot.asm"],
+    &["asm"],
+    &["asm", ""],
+    &["asm", "boot.asm", "boot.asm"],
     &["exec"],
     &["exec", ""],
     &["exec", "boot.asm", "boot.asm"],

@@ -6,3 +6,4 @@ mod Ends
 mod TextRuns
 mod Complete
 mod RunComplete
+mod Debugging

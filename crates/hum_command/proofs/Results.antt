@@ -8,3 +8,7 @@ on_ok-map (Err _) p f = tt
 pub on_err-map : {T E P Q R : Type 0} (result : Result T E) → OnErr result P → OnErr result Q → (P → Q → R) → OnErr result R
 on_err-map (Ok _) p q f = tt
 on_err-map (Err _) p q f = f p q
+
+pub on_err : {T E P : Type 0} (result : Result T E) → P → OnErr result P
+on_err (Ok _) p = tt
+on_err (Err _) p = p

@@ -1,5 +1,5 @@
 -- What is told of a text.
-use Rattle.std.proofs.Common.{◌≡◌, ℕ, ◌+◌, ◌<◌, List, [], ◌∷◌, ◌++◌, length, Option, Some, None, refl, ⊎_elim, arith}
+use Rattle.std.proofs.Common.{◌≡◌, ℕ, ◌+◌, ◌<◌, ◌≤◌, List, [], ◌∷◌, ◌++◌, length, Option, Some, None, MatchOption, IfSome, refl, sym, subst, ⊎_elim, arith}
 use Rattle.std.proofs.lemmas.List.{length-replicate}
 use lib.ListN.{replicate}
 use Rattle.std.specs.Prelude.{Err, IsErrOf, ◌⊎◌}
@@ -43,3 +43,9 @@ same_texts files (name ∷ names) (text ∷ texts) (other ∷ others) are have =
 -- a file that is read to be too long was read
 pub not_absent : (why : ReadError) → why ≡ read.TooLong → {T : Type 0} → IsErrOf {T = T} (Err why) read.Failed ⊎ IsErrOf {T = T} (Err why) read.NoMemory → ⊥
 not_absent why is other = ⊎_elim (λ f. cc) (λ f. cc) other
+
+-- what was read within a limit has no more bytes
+pub read_within : {V : Type 0} (items : V → List ℕ) (limit : ℕ) (text : List ℕ) (read : Option V)
+    → MatchOption read (limit < length text) (λ v. (items v ≡ text) × (length text ≤ limit)) → IfSome read (λ v. length (items v) ≤ limit)
+read_within items limit text None m = tt
+read_within items limit text (Some v) m = subst (λ (t : List ℕ). length t ≤ limit) (sym m.0) m.1

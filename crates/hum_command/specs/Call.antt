@@ -1,11 +1,12 @@
 -- A call of the program: what it is given, and what it leaves.
 use Rattle.std.specs.Prelude.{◌≡◌, ℕ, List, Option}
 use Rattle.hum_outside.specs.Outside.{Files, told, Rose}
-use Rattle.hum_command.specs.Writes.{Writes, writes, Said, Silent}
+use Rattle.hum_command.specs.Writes.{Writes, writes, Wrote, WroteFront, Said, Silent}
 use Rattle.hum_command.specs.Texts.{IsNext, Unreadable}
 use Rattle.hum_command.specs.Refusals.{answer_line}
 use Rattle.hum_command.specs.declared.record.Record.{Record}
 use Rattle.hum_command.specs.declared.answer.Answer.{Answer}
+use Rattle.hum_command.specs.declared.answer.Answer.TheVariants.{Done, Fault}
 
 pub record Call : Type 0 where
   pub files : Option Files
@@ -46,3 +47,9 @@ NotRead names c name = IsNext c.files names name × Unreadable c.faults_old c.fa
 -- no fault of the folder was counted
 abbrev pub Reads : Call → Type 0
 Reads c = ¬ (Rose c.faults_old c.faults_new)
+
+-- these bytes were written, and so the answer tells whether all were, or a front because of a fault
+abbrev pub PutsAll : Answer → Writes → List ℕ → Type 0
+PutsAll Done w bytes = Wrote w bytes
+PutsAll Fault w bytes = WroteFront w bytes
+PutsAll answer w bytes = ⊥

@@ -54,6 +54,10 @@ number_in key (word ∷ words) = option_or (number_for key word) (number_in key 
 abbrev pub run_keys : List Key
 run_keys = Memory ∷ Events ∷ Cycles ∷ Lanes ∷ Seed ∷ Bound ∷ []
 
+-- those of `debug`
+abbrev pub debug_keys : List Key
+debug_keys = Memory ∷ Events ∷ Cycles ∷ Lanes ∷ Seed ∷ []
+
 -- a word gives a number to a key that these words give none
 abbrev pub is_new : List ℕ → List (List ℕ) → Key → Bool
 is_new word words key = is_some (number_for key word) && not (is_some (number_in key words))

@@ -3,6 +3,7 @@ pub mod Texts
 pub mod Keys
 pub mod Grants
 pub mod Words
+pub mod Chain
 pub mod Refusals
 pub mod Call
 pub mod Link
@@ -15,4 +16,9 @@ pub mod ExecAnswers
 pub mod TextRuns
 pub mod TextRefusals
 pub mod RunAnswers
+pub mod Code
+pub mod AsmAnswers
+pub mod Debugging
+pub mod DebugAnswers
+pub mod DebugParts
 pub mod Answers

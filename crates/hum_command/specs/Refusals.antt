@@ -94,3 +94,4 @@ answer_line answer.NoMemory name = codes "no memory\n"
 answer_line answer.EventFailed name = []
 answer_line (answer.TextRefused why) name = text_refusal_line why name
 answer_line (answer.Refused why) name = refusal_line why name
+answer_line (answer.ScriptRefused line) name = concat (name ∷ codes ":" ∷ decimal line ∷ codes ": not a command\n" ∷ [])

@@ -28,6 +28,8 @@ pub enum Answer {
     EventFailed,
     /// The contents of files are refused.
     Refused(Refusal),
+    /// This line of a script is refused.
+    ScriptRefused(u32),
 }
 
 impl Answer {
@@ -46,6 +48,7 @@ impl Answer {
             Answer::NoMemory => 7,
             Answer::EventFailed => 9,
             Answer::Refused(_) => 10,
+            Answer::ScriptRefused(_) => 11,
         }
     }
 }

@@ -62,6 +62,9 @@ pub const RUN_KEYS: [Key; 6] = [
     Key::Bound,
 ];
 
+/// The keys of a machine that is debugged.
+pub const DEBUG_KEYS: [Key; 5] = [Key::Memory, Key::Events, Key::Cycles, Key::Lanes, Key::Seed];
+
 impl Key {
     fn front(self) -> &'static [u8]
         ensures { result.now ≡ spec.front_of self }
@@ -106,7 +109,7 @@ fn number_from(digits: &[u8]) -> Option<u32>
     Some(number)
 }
 
-fn number_of(digits: &[u8]) -> Option<u32>
+pub fn number_of(digits: &[u8]) -> Option<u32>
     ensures { result ≡ spec.number_of digits.now }
 {
     if digits.len() >= 1 && digits.len() <= 10 {

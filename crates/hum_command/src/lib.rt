@@ -4,6 +4,9 @@
 #![tactic(auto)]
 
 mod answer;
+mod asm;
+mod chain;
+mod debug;
 mod ending;
 mod exec;
 mod keys;
@@ -17,5 +20,6 @@ mod run;
 mod top;
 mod words;
 
+pub use chain::chain_text;
 pub use record::Record;
 pub use top::humus_main;

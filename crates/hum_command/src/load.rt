@@ -14,8 +14,8 @@ use std::alloc::Global;
 use uasm_image::{DecodeError, decode};
 use uasm_read::{ReadModuleError, read_module};
 
-// The most bytes that a file may have: those of the largest image.
-const FILE_LIMIT: u64 = 16_776_972;
+/// The most bytes that a file may have: those of the largest image.
+pub const FILE_LIMIT: u64 = 16_776_972;
 
 // The image whose bytes these are.
 fn decoded(alloc: Global, bytes: &[u8]) -> Result<Image, Answer>
@@ -43,8 +43,8 @@ fn linked_alone(alloc: Global, text: &[u8]) -> Result<Image, Answer>
     image_of(alloc, &modules)
 }
 
-// The image that bytes hold.
-fn load(alloc: Global, bytes: &[u8]) -> Result<Image, Answer>
+/// The image that bytes hold.
+pub fn load(alloc: Global, bytes: &[u8]) -> Result<Image, Answer>
     ensures image { IfOk result (Holds (is_image_file bytes.now) bytes.now) }
     ensures fails { IfErr result (FailsToHold (is_image_file bytes.now) bytes.now) }
 {

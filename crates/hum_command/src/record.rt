@@ -24,14 +24,14 @@ impl Record {
         }
     }
 
-    /// The run that `run` left.
+    /// The run that `run` or `chain` left.
     pub fn run(&self) -> Option<&Run>
         ensures { option_copied result ≡ self.now.run }
     {
         self.run.as_ref()
     }
 
-    /// The machine that `exec` left.
+    /// The machine that `exec` or `debug` left.
     pub fn machine(&self) -> Option<&Machine>
         ensures { option_copied result ≡ self.now.machine }
     {

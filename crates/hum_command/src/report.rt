@@ -24,6 +24,10 @@ pub fn refuse<K: Sink>(err: &mut K, answer: &Answer, name: &str)
         Answer::NoMemory => say(err, &[b"no memory\n"]),
         Answer::TextRefused(why) => refuse_text(err, why, name),
         Answer::Refused(why) => refuse_contents(err, why, name),
+        Answer::ScriptRefused(line) => {
+            let mut number = Buffer::new();
+            say_at(err, name, number.format(*line).as_bytes(), b"not a command");
+        }
     }
 }
 

@@ -22,8 +22,8 @@ use hum_outside::{Folder, Sink};
 use hum_run::Run;
 use std::alloc::Global;
 
-// The most bytes that a text may have.
-const TEXT_LIMIT: u64 = 1_048_576;
+/// The most bytes that a text may have.
+pub const TEXT_LIMIT: u64 = 1_048_576;
 
 // The answer for a text in which something is wrong at a byte.
 fn refused_at(text: &[u8], at: u32, cause: TextCause) -> Answer
@@ -32,8 +32,8 @@ fn refused_at(text: &[u8], at: u32, cause: TextCause) -> Answer
     Answer::TextRefused(TextRefusal::At(line_column(text, at as usize), cause))
 }
 
-// The answer for a text that has no run.
-fn refused(alloc: Global, text: &[u8], error: StartError) -> Answer
+/// The answer for a text that is refused, or for which there was no memory.
+pub fn refused(alloc: Global, text: &[u8], error: StartError) -> Answer
     requires { Fails text.now error }
     ensures { TextFails text.now result }
 {

@@ -1,13 +1,5 @@
 -- What is known of an answer, case by case.
-use Rattle.std.specs.Prelude.{◌≡◌, false, true, Result, Ok, Err, IfOk, OnOk, OnErr}
-
-pub on_ok-map : {T E P Q : Type 0} (result : Result T E) → OnOk result P → (P → Q) → OnOk result Q
-on_ok-map (Ok _) p f = f p
-on_ok-map (Err _) p f = tt
-
-pub on_err-map : {T E P Q R : Type 0} (result : Result T E) → OnErr result P → OnErr result Q → (P → Q → R) → OnErr result R
-on_err-map (Ok _) p q f = tt
-on_err-map (Err _) p q f = f p q
+use Rattle.std.specs.Prelude.{◌≡◌, false, true, Result, Ok, Err, IfOk}
 
 pub if_ok-map : {T E : Type 0} {P Q : T → Type 0} (result : Result T E) → IfOk result P → ((x : T) → P x → Q x) → IfOk result Q
 if_ok-map (Ok x) p f = f x p

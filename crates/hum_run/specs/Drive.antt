@@ -16,7 +16,7 @@ use Rattle.vm_turn.specs.State.{State, root}
 use Rattle.vm_turn.specs.Turn.{dispatchable, turn}
 use Rattle.vm_turn.specs.Run.{run, picks, drawn, drawn_after, pick_of}
 use Rattle.vm_machine.specs.Machine.{Machine, drawn_run}
-use Rattle.hum_run.specs.Failure.{failure_line}
+use Rattle.failure_lines.specs.Failure.{failure_line}
 use Rattle.hum_run.specs.declared.stop.Stop.{Stop}
 use Rattle.hum_run.specs.declared.stop.Stop.TheVariants.{Rest, Bound, Spent, Broken}
 

@@ -1,4 +1,3 @@
-pub mod Failure
 pub mod Report
 pub mod Drive
 pub mod Run

@@ -6,14 +6,12 @@
 #![tactic(auto)]
 
 mod driven;
-mod failure;
 mod report;
 mod run;
 mod stop;
 mod turns;
 
 pub use driven::Driven;
-pub use failure::put_failure;
 pub use report::{Report, report_of};
 pub use run::Run;
 pub use stop::{Stop, WriteFault};

@@ -1,18 +1,14 @@
 // Turns to an end, with the lines of the events that fail.
 ghost use Rattle.std.specs.Prelude.{◌≡◌, ◌≤◌, ◌+◌, [], false, true, None, IfOk, IfErr, OnOk, OnErr};
 ghost use Rattle.hum_outside.specs.Outside.{HasCause, AppendsFront, appended};
-ghost use Rattle.instr_table.specs.Sheet.{held};
-ghost use Rattle.vm_turn.specs.State.{root};
 ghost use Rattle.hum_run.specs.Drive.{IsRun, Drives, Breaks, RoseOn, Stops, Unreached, RanOutSince, Goes, is_reached, stop_before, entry_line, turn_line, is_turn};
 ghost use Rattle.vm_turn.specs.declared.journal.Entry.{Entry as Ended};
 ghost use Rattle.vm_turn.specs.declared.journal.Turn.TheVariants.{Finished};
 
 use crate::driven::Driven;
-use crate::failure::put_failure;
 use crate::stop::{Stop, WriteFault};
-use cap_words::Word;
+use failure_lines::put_failure;
 use hum_outside::{Failed, Sink};
-use instr_table::Quota;
 use vm_machine::Machine;
 use vm_turn::{Entry, Outcome, Turn};
 
@@ -26,13 +22,6 @@ fn is_reached(machine: &Machine, bound: Option<u32>) -> bool
     }
 }
 
-// What the root sponsor holds of that kind.
-fn held_by_root(machine: &Machine, kind: Quota) -> u32
-    ensures { result ≡ held machine.now.state.sheet root kind }
-{
-    machine.sheet().held(machine.quads(), Word::cap(0), kind)
-}
-
 // Why no turn is to be taken, if none is: the root ran out, or else the bound is reached.
 fn stop_before(machine: &Machine, bound: Option<u32>) -> Option<Stop>
     ensures { result ≡ stop_before bound machine.now.state }
@@ -40,7 +29,7 @@ fn stop_before(machine: &Machine, bound: Option<u32>) -> Option<Stop>
     match machine.ran_out() {
         Some(kind) => Some(Stop::Spent {
             kind,
-            held: held_by_root(machine, kind),
+            held: machine.root_holds(kind),
         }),
         None if is_reached(machine, bound) => Some(Stop::Bound),
         None => None,

@@ -1,5 +1,6 @@
-//! `humus run FILE KEYS` runs a Humus text; `humus link FILE FILE ..` links modules of assembly to an image; `humus exec FILE KEYS` runs an
-//! image, or a module that links alone.
+//! `humus run FILE KEYS` runs a Humus text, and `humus chain N KEYS` a generated one; `humus asm FILE` writes the code of a text as assembly;
+//! `humus link FILE FILE ..` links modules of assembly to an image; `humus exec FILE KEYS` runs an image, or a module that links alone; `humus
+//! debug FILE SCRIPT KEYS` lets a script watch such a run.
 //!
 //! `humus_main` does what the words say over any folder and sinks; `main` calls it with the real ones.
 #![tactic(auto)]

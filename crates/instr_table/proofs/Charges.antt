@@ -5,7 +5,7 @@ use Rattle.std.proofs.Math.Nat.{le_refl}
 use Rattle.std.proofs.lemmas.List.{length-reverse}
 use Rattle.std.proofs.lemmas.Bool.Decides.{nat_tests}
 use Rattle.cap_words.specs.declared.word.Quad.{Quad}
-use Rattle.cap_words.specs.Words.{W, same_word}
+use Rattle.cap_words.specs.Words.{W, Ram, nil, same_word}
 use Rattle.cap_words.specs.Seen.{Seen, cell_seen}
 use Rattle.instr_table.specs.declared.charge.Charge.{Charge}
 use Rattle.instr_table.specs.declared.charge.Quota.{Quota}
@@ -15,7 +15,7 @@ use Rattle.instr_table.specs.Code.{turns}
 use Rattle.instr_table.specs.Spelling.{is_op}
 use Rattle.instr_table.specs.Types.{is_actor, is_sponsor, is_makeable}
 use Rattle.instr_table.specs.Lists.{next_quad, item, top_items, rolled, linked, pair_quad, parted, fields_in, tail_in, head_in, Built}
-use Rattle.instr_table.specs.Deque.{ends, Ends, pushed_front, pushed_back}
+use Rattle.instr_table.specs.Deque.{ends, Ends, pushed_front, pushed_back, turned_on, turned}
 use Rattle.instr_table.specs.Event.{Own, Effects, Behaviour, has_created}
 use Rattle.instr_table.specs.Sheet.{Account, runs}
 use Rattle.instr_table.specs.Outcome.{Row, charge, gives}
@@ -34,6 +34,14 @@ length-top_items (suc n) (v ∷ vs) = ap suc (length-top_items n vs)
 pub length-linked : {A : Type 0} (f : A → W → Quad) (n : ℕ) (xs : List A) (tail : W) → length (linked f n xs tail) ≡ length xs
 length-linked f n [] tail = refl
 length-linked f n (x ∷ xs) tail = ap suc (length-linked f (suc n) xs _)
+
+pub length-turned_on : (n : ℕ) (tail v : W) (vs : List W) → length (turned_on n tail v vs).cells ≡ suc (length vs)
+length-turned_on n tail v [] = refl
+length-turned_on n tail v (w ∷ vs) = ap suc (length-turned_on (suc n) (Ram n) w vs)
+
+pub length-turned : (n : ℕ) (vs : List W) → length (turned n vs).cells ≡ length vs
+length-turned n [] = refl
+length-turned n (v ∷ vs) = length-turned_on n nil v vs
 
 pub length-parted : (s : Seen) (n : ℕ) (w : W) → length (parted s n w) ≡ n + 1
 length-parted s zero w = refl

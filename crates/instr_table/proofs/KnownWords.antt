@@ -1,5 +1,5 @@
 -- An instruction hands on only words that the event knew, and those of cells, actors and sponsors that it makes.
-use Rattle.std.proofs.Common.{◌≡◌, ℕ, suc, ◌+◌, ◌≤◌, pos, Bool, true, false, List, [], ◌∷◌, ◌++◌, length, reverse, Option, Some, None, refl, ap, inl, inr, arith, if◌then◌else◌, unsigned_abs, length-append, nat_lt, nat_le, ◌⊎◌, IsTrue}
+use Rattle.std.proofs.Common.{◌≡◌, ℕ, suc, ◌+◌, ◌≤◌, pos, Bool, true, false, List, [], ◌∷◌, ◌++◌, length, reverse, Option, Some, None, refl, inl, inr, arith, if◌then◌else◌, unsigned_abs, length-append, nat_lt, nat_le, ◌⊎◌, IsTrue}
 use Rattle.std.specs.Ordering.{int_eq}
 use Rattle.cap_words.specs.declared.word.Quad.{Quad}
 use Rattle.cap_words.specs.Words.{W, Fix, Ram, Cap, same_word, undef, nil}
@@ -21,7 +21,7 @@ use Rattle.instr_table.specs.SponsorRows.{grant_of, most_sponsors}
 use Rattle.instr_table.specs.Row.{row, item_of, quad_row, popped, pulled}
 use Rattle.instr_table.specs.Reach.{Every, words_of, given, Got, plain, reached, Known, got, new, made_now, is_made}
 use Rattle.instr_table.specs.Laws.{words_at, CellKnown, EffectKnown, HandsOn}
-use Rattle.instr_table.proofs.Charges.{length-linked}
+use Rattle.instr_table.proofs.Charges.{length-linked, length-turned_on}
 use Rattle.instr_table.proofs.GotWords.{pair_is, every-append, every-reverse, every-map, every-of, got-undef, got-nil, got-truth, got-fix, got-either, words-read, got-field, got-fields, got-nth, got-parted, got-item, got-top_items, got-rolled, got-items, GotEntry, got-entries, got-first_with, got-value, got-before, got-ends, got-compared, got-alu, got-complement}
 
 -- ---- cells that are linked, among those that an instruction makes
@@ -57,10 +57,6 @@ module _ (s : Seen) (made : List Slot) (ws : List W) (payer : W) where
   turned_on-known n tail v (w ∷ vs) low high t g gs =
       let h = turned_on-known (suc n) (Ram n) w vs (omega arith) (omega arith) (new low (omega arith)) gs.0 gs.1 in
       ((pair-known v tail g t, h.0), h.1, h.2, h.3)
-
-  length-turned_on : (n : ℕ) (tail v : W) (vs : List W) → length (turned_on n tail v vs).cells ≡ suc (length vs)
-  length-turned_on n tail v [] = refl
-  length-turned_on n tail v (w ∷ vs) = ap suc (length-turned_on (suc n) (Ram n) w vs)
 
   turned-known : (vs : List W) → Every (Got s ws) vs → length (turned (next_quad s) vs).cells ≤ length made → TakingKnown (turned (next_quad s) vs)
   turned-known [] g h = (tt, got (got-undef s ws), got (got-nil s ws), got (got-nil s ws))

@@ -4,6 +4,7 @@ mod EventExamples
 mod RoundTrip
 pub mod Spellings
 pub mod Charges
+pub mod ByState
 pub mod Assignments
 pub mod GotWords
 pub mod KnownWords

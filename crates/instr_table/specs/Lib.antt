@@ -14,6 +14,7 @@ pub mod Row
 pub mod Lane
 pub mod Reach
 pub mod Laws
+pub mod ByState
 pub mod Authority
 pub mod Making
 pub mod Plain

@@ -1,6 +1,7 @@
 // What is so of every row of the table.
 
 ghost use Rattle.instr_table.specs.Laws.{ChargesAsListed, TakesWhatItCharges, AssignsToOwn, HandsOnWhatItHas, ShownStays, ChangesKeepShown};
+ghost use Rattle.instr_table.specs.ByState.{ChargesByState};
 ghost use Rattle.instr_table.specs.Authority.{EachKeepsAuthority};
 ghost use Rattle.instr_table.specs.Making.{KeepsCodeOut, MakesWhatItNames};
 ghost use Rattle.instr_table.specs.Plain.{PlainRowsLeaveSponsors};
@@ -8,6 +9,13 @@ ghost use Rattle.instr_table.specs.Plain.{PlainRowsLeaveSponsors};
 /// Each row charges what `op_charge` says of its operation, where that says something.
 pub fn charges_as_listed()
     ensures { ChargesAsListed }
+{}
+
+/// Where `op_charge` says nothing, the state says how many quads a row charges, and no event. `dict set` costs i + 2 where the first entry
+/// with the key stands at place i, counted from 0, and 2 where there is none; `dict del` costs i + 1, or 1. `deque pop` and `deque pull`
+/// cost 3, and one more for each item that is turned round. `sponsor new` costs 3, or 1 where there are 65,536 sponsors.
+pub fn charges_by_state()
+    ensures { ChargesByState }
 {}
 
 /// No row takes more quads than it charges, or sends more messages than it charges events.

@@ -14,8 +14,8 @@ pub use charge::{Charge, Quota, op_charge};
 pub use decoding::decode;
 pub use encoding::encode;
 pub use laws::{
-    assigns_to_own, changes_keep_shown, charges_as_listed, hands_on_what_it_has, keeps_authority,
-    keeps_code_out_of_ram, makes_what_it_names, plain_rows_leave_sponsors, shown_stays,
-    takes_what_it_charges,
+    assigns_to_own, changes_keep_shown, charges_as_listed, charges_by_state, hands_on_what_it_has,
+    keeps_authority, keeps_code_out_of_ram, makes_what_it_names, plain_rows_leave_sponsors,
+    shown_stays, takes_what_it_charges,
 };
 pub use op::Op;

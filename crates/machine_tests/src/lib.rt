@@ -4,4 +4,6 @@
 #![tactic(auto)]
 
 #[cfg(test)]
+mod debugger;
+#[cfg(test)]
 mod machine;

@@ -1,7 +1,8 @@
 // Turns of a machine to an end, with one line for each event that fails.
 use cap_words::Word;
+use failure_lines::put_failure;
 use hum_outside::MemSink;
-use hum_run::{Report, Stop, WriteFault, drive, put_failure, report_of};
+use hum_run::{Report, Stop, WriteFault, drive, report_of};
 use instr_table::{Op, Quota, encode};
 use quad_memory::{Image, NoMemory};
 use std::alloc::Global;

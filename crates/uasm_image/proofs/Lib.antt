@@ -11,3 +11,9 @@ pub mod Faults
 pub mod Parts
 pub mod Once
 pub mod Told
+pub mod Labels
+pub mod ListedLabels
+pub mod ListedCells
+pub mod ListedItems
+pub mod ListedModules
+pub mod Marks

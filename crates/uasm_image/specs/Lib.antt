@@ -1,3 +1,5 @@
 pub mod Spelled
 pub mod Reading
 pub mod Refused
+pub mod Listed
+pub mod Laws

@@ -44,8 +44,8 @@ fn push_word(bytes: &mut Vec<u8>, w: Word) -> Result<(), NoMemory>
     bytes.extend_from_slice(&w.bits().to_le_bytes())
 }
 
-// Each cell has such words.
-fn has_exact_words(q: &Quad) -> bool
+/// Whether each word of a cell that is a number is in range, as it always is.
+pub fn has_exact_words(q: &Quad) -> bool
     ensures value { result ≡ is_exact_quad q.now }
     ensures holds { result ≡ true }
 {

@@ -7,21 +7,12 @@ use Rattle.cap_words.specs.Seen.{Seen, Slot, OpenSlot, seen, cell_seen}
 use Rattle.quad_memory.specs.Memory.{Memory}
 use Rattle.instr_table.specs.Lists.{next_quad, pair_in, pair_quad, items_to, items, longest}
 use Rattle.instr_table.specs.Deque.{Taking, turned, turned_on, taken_from, taking}
+use Rattle.instr_table.proofs.Charges.{length-turned}
 use Rattle.vm_dict.specs.Made.{Takes, HasRoom}
 use Rattle.vm_dict.specs.Calls.{taking_in}
 use Rattle.vm_dict.proofs.Taking.{takes-none, takes-append, next-takes, used-takes, room-takes}
 use Rattle.vm_dict.proofs.Entries.{one_left}
 use Rattle.vm_dict.proofs.Items.{items-zero, items-some, items-whole, items-counted, pair-grown}
-
--- ---- how many cells
-
-length-turned_on : (n : ℕ) (tail v : W) (vs : List W) → length (turned_on n tail v vs).cells ≡ suc (length vs)
-length-turned_on n tail v [] = refl
-length-turned_on n tail v (w ∷ vs) = ap suc (length-turned_on (suc n) (Ram n) w vs)
-
-pub length-turned : (n : ℕ) (vs : List W) → length (turned n vs).cells ≡ length vs
-length-turned n [] = refl
-length-turned n (v ∷ vs) = length-turned_on n nil v vs
 
 -- ---- what is taken from one end
 

@@ -293,6 +293,7 @@ module _ (p : Parts) (k : Kept p) (number : ℕ) (event : W) (free : length p.fl
         omega (arith, c, a, k.actors, busied.used_is));
     used_room = omega (arith, k.used_room, busied.used_is, room);
     roll_room = omega (arith, k.roll_room, room);
+    known = k.known;
   }
 
   pub state-begun : state_of begun_parts ≡ begin (state_of p) number (sent_at (seen p.quads.store) event)

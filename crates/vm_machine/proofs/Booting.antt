@@ -70,14 +70,14 @@ abbrev boot_cells : W → W → W → W → W → W → List Cell
 boot_cells code println say end devices first =
     idle_cells (Fix (pos 0)) undef ++ idle_cells (Fix (pos 1)) undef ++ pair_cells say nil ++ pair_cells println end ++ idle_cells code devices ++ event_cells (record { sponsor = root; target = first; message = nil; next = nil })
 
-module _ (code root_word zero_word one_word println say end devices first : W) (m0 m1 m2 m3 m4 m5 m6 : Memory) (used_is : used m0.store ≡ 2)
-    (root_is : root_word ≡ root) (zero_is : zero_word ≡ Fix (pos 0)) (one_is : one_word ≡ Fix (pos 1))
+module _ (code sponsor zero_word one_word println say end devices first : W) (m0 m1 m2 m3 m4 m5 m6 : Memory) (used_is : used m0.store ≡ 2)
+    (sponsor_is : sponsor ≡ root) (zero_is : zero_word ≡ Fix (pos 0)) (one_is : one_word ≡ Fix (pos 1))
     (println_is : println ≡ Cap (used m0.store)) (t1 : Took m0 m1 (idle_cells zero_word undef))
     (say_is : say ≡ Cap (used m1.store)) (t2 : Took m1 m2 (idle_cells one_word undef))
     (end_is : end ≡ Ram (used m2.store)) (t3 : Took m2 m3 (pair_cells say nil))
     (devices_is : devices ≡ Ram (used m3.store)) (t4 : Took m3 m4 (pair_cells println end))
     (first_is : first ≡ Cap (used m4.store)) (t5 : Took m4 m5 (idle_cells code devices))
-    (t6 : Took m5 m6 (event_cells (record { sponsor = root_word; target = first; message = nil; next = nil }))) where
+    (t6 : Took m5 m6 (event_cells (record { sponsor = sponsor; target = first; message = nil; next = nil }))) where
   boot-took : Took m0 m6 (boot_cells code println_device say_device (Ram 4) (Ram 5) first_actor)
   boot-took =
       let u1 : used m1.store ≡ 3 = (let e = took-used m0 m1 (idle_cells zero_word undef) t1 in omega (arith, e, used_is)) in
@@ -95,7 +95,7 @@ module _ (code root_word zero_word one_word println say end devices first : W) (
       let t4' : Took m3 m4 (pair_cells println_device (Ram 4)) = subst (λ (w : W). Took m3 m4 (pair_cells println_device w)) e (subst (λ (w : W). Took m3 m4 (pair_cells w end)) p t4) in
       let t5' : Took m4 m5 (idle_cells code (Ram 5)) = subst (λ (w : W). Took m4 m5 (idle_cells code w)) d t5 in
       let t6' : Took m5 m6 (event_cells (record { sponsor = root; target = first_actor; message = nil; next = nil })) = subst (λ (w : W). Took m5 m6 (event_cells (record { sponsor = root; target = w; message = nil; next = nil }))) f
-      (subst (λ (w : W). Took m5 m6 (event_cells (record { sponsor = w; target = first; message = nil; next = nil }))) root_is t6) in
+      (subst (λ (w : W). Took m5 m6 (event_cells (record { sponsor = w; target = first; message = nil; next = nil }))) sponsor_is t6) in
       took-then m0 m1 m6 _ _ t1' (took-then m1 m2 m6 _ _ t2' (took-then m2 m3 m6 _ _ t3' (took-then m3 m4 m6 _ _ t4' (took-then m4 m5 m6 _ _ t5' t6'))))
 
   pub actors-seen : seen m6.store ≡ grown (seen m0.store) (drop 2 (boot_slots code))
@@ -106,8 +106,8 @@ module _ (code root_word zero_word one_word println say end devices first : W) (
 
 -- ---- the parts
 
-module _ (image : RomImage) (grant : Amounts) (lanes memory events : ℕ) (code : W) (words : BootWords) (m0 m1 m2 : Memory) (sheet : Ledger) (queue : Pending) (roll : Vec W) (flight : Vec Lane) (journal : Vec Entry)
-    (memory_is : memory ≡ grant.memory) (memory_limit : memory ≤ 16777216) (events_is : events ≡ grant.events) (events_limit : events ≤ 4194304) (code_is : code ≡ image.boot)
+module _ (image : RomImage) (grant : Amounts) (lanes memory events : ℕ) (code sponsor : W) (words : BootWords) (m0 m1 m2 : Memory) (sheet : Ledger) (queue : Pending) (roll : Vec W) (flight : Vec Lane) (journal : Vec Entry)
+    (memory_is : memory ≡ grant.memory) (memory_limit : memory ≤ 16777216) (events_is : events ≡ grant.events) (events_limit : events ≤ 4194304) (code_is : code ≡ image.boot) (sponsor_is : sponsor ≡ root)
     (words_are : words ≡ record { println = println_device; say = say_device; first = first_actor; event = Cap 7 }) (some_lanes : 1 ≤ lanes) (lanes_limit : lanes ≤ 64)
     (empty : m0 ≡ record { store = record { rom = image.cells; ram = [] }; room = memory + 16 })
     (rooted : sheet_of m1.store sheet.rows ≡ root_account (Cap (used m0.store)) grant ∷ []) (belongs : Belongs m1.store sheet) (rows_room : sheet.room ≡ 65536) (transfers : sheet.transfers ≡ 0)
@@ -118,7 +118,7 @@ module _ (image : RomImage) (grant : Amounts) (lanes memory events : ℕ) (code 
     (flight_is : flight.items ≡ []) (flight_len : vec_len flight ≡ 0) (flight_room : lanes ≤ vec_capacity flight)
     (journal_is : journal.items ≡ []) (journal_room : events + 1 ≤ vec_capacity journal) where
   abbrev parts : Parts
-  parts = record { quads = m2; sheet = sheet; queue = queue; roll = roll; flight = flight; lanes = lanes; journal = journal; out_of = None; grant = grant; stuck = false }
+  parts = record { quads = m2; sheet = sheet; queue = queue; roll = roll; flight = flight; lanes = lanes; journal = journal; out_of = None; grant = grant; known = record { root = sponsor; println = words.println; say = words.say }; stuck = false }
 
   abbrev begun : State
   begun = booted image grant lanes
@@ -189,6 +189,11 @@ module _ (image : RomImage) (grant : Amounts) (lanes memory events : ℕ) (code 
         actors = omega (arith, n, c, used_is);
         used_room = omega (arith, used_is, room_is);
         roll_room = omega (arith, room_is, memory_is, roll_room);
+        known = record {
+          root_is = sponsor_is;
+          println_is = ap (λ (w : BootWords). w.println) words_are;
+          say_is = ap (λ (w : BootWords). w.say) words_are;
+        };
       }
 
   pub state-booted : state_of parts ≡ booted image grant lanes

@@ -275,6 +275,7 @@ module _ (p : Parts) (place : ℕ) (lane : Lane) (e : slice_get p.flight.items p
         omega (arith, n, length-words, created-left, same-used, k.actors));
     used_room = omega (arith, same-used, idle_room, room, k.used_room);
     roll_room = omega (arith, idle_room, room, k.roll_room, roll_capacity);
+    known = k.known;
   }
 
   -- the state is the one after the event's effects

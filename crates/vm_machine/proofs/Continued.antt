@@ -1,8 +1,9 @@
 -- A run goes on by one turn.
 use Rattle.std.proofs.Common.{◌≡◌, ℕ, ◌+◌, suc, List, [], ◌∷◌, ◌++◌, Bool, true, false, if◌then◌else◌, ap, refl, sym, ◌∙◌, subst, arith, ◌≤◌, Option, Some, None, Result, Ok, Err}
+use Rattle.std.specs.Prelude.{IsTrue}
 use Rattle.cap_words.specs.Words.{W}
 use Rattle.cap_words.specs.declared.word.Quad.{Quad}
-use Rattle.quad_memory.specs.Image.{RomImage}
+use Rattle.quad_memory.specs.Image.{RomImage, is_image}
 use Rattle.instr_table.specs.declared.charge.Quota.{Quota}
 use Rattle.vm_sponsor.specs.declared.amounts.Amounts.{Amounts}
 use Rattle.vm_devices.specs.declared.delivery.WriteFault.{WriteFault}
@@ -62,6 +63,7 @@ follows-still p q boot seed d n same grant h =
     let image : image_of q boot ≡ image_of p boot = ap (λ (s : State). record { boot = boot; cells = s.store.rom }) same in
     let lanes : q.lanes ≡ p.lanes = ap (λ (s : State). s.lanes) same in
     record {
+      image_is = subst (λ (x : RomImage). IsTrue (is_image x.boot x.cells)) (sym image) h.image_is;
       run_is = same ∙ h.run_is ∙ sym (λ i. drawn_run (image i) (grant i) (lanes i) seed n);
       turns_are = (λ i. completed (booted (image i) (grant i) (lanes i)) (picks seed n)) ∙ h.turns_are;
       drawn_is = h.drawn_is;
@@ -71,6 +73,7 @@ follows-still p q boot seed d n same grant h =
 pub follows-on : (p q : Parts) (boot : W) (seed d n next : ℕ) (a : Answer) (before after : Option (List ℕ)) → next ≡ drawn d → q.grant ≡ p.grant → Takes (turn (state_of p) (pick_of next)) (Ok a) (state_of p) (state_of q) before after
     → unless_out p.out_of (not_rest a) ≡ true → Follows p boot seed d n → Follows q boot seed next (n + 1)
 follows-on p q boot seed d n next a before after e grant t done h = subst (Follows q boot seed next) more (record {
+  image_is = subst (λ (x : RomImage). IsTrue (is_image x.boot x.cells)) (sym image) h.image_is;
   run_is = longer ∙ sym (λ i. drawn_run (image i) (grant i) (lanes i) seed (suc n));
   turns_are = (λ i. completed (booted (image i) (grant i) (lanes i)) (picks seed (suc n))) ∙ counted;
   drawn_is = generator ∙ sym (drawn-next seed n);
@@ -115,11 +118,6 @@ follows-resting p q boot seed d n pick a before after grant t idle h =
     follows-still p q boot seed d n
     (t.0 ∙ ap unwritten (turn-rests (state_of p) pick (ap (λ (x : Answer). unless_out p.out_of (not_rest x)) (sym t.1) ∙ idle)))
     grant h
-
--- the turn over the generator's next number is the one over the run's next pick
-pub takes-next : (p : Parts) (t : State) (boot : W) (seed d n next : ℕ) (r : Result Answer WriteFault) (before after : Option (List ℕ)) → next ≡ drawn d → Follows p boot seed d n → Takes (turn (state_of p) (pick_of next)) r (state_of p) t before after
-    → Takes (turn (state_of p) (pick_of (drawn (drawn_after seed n)))) r (state_of p) t before after
-takes-next p t boot seed d n next r before after e h x = subst (λ (k : ℕ). Takes (turn (state_of p) (pick_of k)) r (state_of p) t before after) (e ∙ ap drawn h.drawn_is) x
 
 -- no turn changes the image
 pub image-same : (p q : Parts) (boot : W) (pick : ℕ) (r : Result Answer WriteFault) (before after : Option (List ℕ)) → Takes (turn (state_of p) pick) r (state_of p) (state_of q) before after → image_of q boot ≡ image_of p boot

@@ -1,9 +1,9 @@
 -- A machine after a message was delivered to a device.
-use Rattle.std.proofs.Common.{◌≡◌, ℕ, ◌+◌, ◌≤◌, List, [], ◌∷◌, ◌++◌, length, Option, Some, None, Ok, Err, Bool, true, false, ap, refl, sym, ◌∙◌, subst, arith, vec_len}
+use Rattle.std.proofs.Common.{◌≡◌, ℕ, ◌+◌, ◌≤◌, List, [], ◌∷◌, ◌++◌, length, Option, Some, None, Ok, Bool, true, false, ap, refl, sym, ◌∙◌, subst, arith, vec_len}
 use Rattle.std.specs.Prelude.{vec_capacity}
 use Rattle.std.specs.Global.{Vec}
 use Rattle.std.specs.List.{Contains}
-use Rattle.hum_outside.specs.Outside.{AppendsFront, appended}
+use Rattle.hum_outside.specs.Outside.{appended}
 use Rattle.cap_words.specs.Words.{W}
 use Rattle.cap_words.specs.Store.{Store}
 use Rattle.cap_words.specs.Seen.{seen}
@@ -14,7 +14,6 @@ use Rattle.instr_table.specs.Reach.{Every}
 use Rattle.vm_sponsor.specs.Ledger.{names}
 use Rattle.vm_devices.specs.declared.delivery.Done.{Done}
 use Rattle.vm_devices.specs.declared.delivery.Done.TheVariants.{Committed, Refused}
-use Rattle.vm_devices.specs.declared.delivery.WriteFault.{WriteFault}
 use Rattle.vm_devices.specs.Delivery.{Delivers}
 use Rattle.vm_turn.specs.declared.journal.Entry.{Entry}
 use Rattle.vm_turn.specs.declared.journal.Outcome.{Outcome as End}
@@ -41,7 +40,7 @@ use Rattle.vm_machine.proofs.Beginning.{contains-among, length-without, event-se
 use Rattle.vm_machine.proofs.Failing.{append-none}
 
 -- nothing appended
-pub appended-none : (told : Option (List ℕ)) → appended told [] ≡ told
+appended-none : (told : Option (List ℕ)) → appended told [] ≡ told
 appended-none None = refl
 appended-none (Some bytes) = ap (λ (bs : List ℕ). Some bs) (append-none bytes)
 
@@ -90,6 +89,7 @@ module _ (p : Parts) (k : Kept p) (number : ℕ) (ready : Contains p.queue.ready
     actors = k.actors;
     used_room = k.used_room;
     roll_room = k.roll_room;
+    known = k.known;
   }
 
   state-told : (bytes : List ℕ) → state_of told ≡ unwritten (delivered (state_of p) number end bytes)
@@ -107,11 +107,6 @@ module _ (p : Parts) (k : Kept p) (number : ℕ) (ready : Contains p.queue.ready
   takes-told (Some bytes) Committed before after h e =
       (state-told bytes ∙ ap (λ (x : End). unwritten (delivered (state_of p) number x bytes)) e, ap (λ (x : End). Finished (entry number x)) e, h)
   takes-told (Some bytes) Refused before after h e = absurd h
-
--- where the write failed
-pub takes-fault : (s : State) (number : ℕ) (o : Option (List ℕ)) (fault : WriteFault) (before after : Option (List ℕ)) → s.output ≡ [] → Delivers o (Err fault) before after → Takes (deliver s number o) (Err fault) s s before after
-takes-fault s number None fault before after e h = absurd h
-takes-fault s number (Some bytes) fault before after e h = (refl, subst (λ (out : List ℕ). AppendsFront before after (out ++ bytes)) (sym e) h)
 
 -- ---- dispatch
 

@@ -103,6 +103,7 @@ module _ (p : Parts) (place : ℕ) (lane : Lane) (e : slice_get p.flight.items p
         omega (arith, fewer, new, used-same, k.actors));
     used_room = omega (arith, used-same, room, k.used_room);
     roll_room = omega (arith, room, k.roll_room);
+    known = k.known;
   }
 
   -- the messages that are left

@@ -131,6 +131,7 @@ module _ (p : Parts) (whole : Whole p) (place : ℕ) (lane m : Lane) (at : slice
     actors = actors;
     used_room = fits;
     roll_room = omega (arith, k.roll_room, stays.room_is);
+    known = k.known;
   }
 
   -- the quads that are taken fit, since those that sponsors hold do

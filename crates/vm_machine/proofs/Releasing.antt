@@ -203,6 +203,7 @@ module _ (p : Parts) (k : Kept p) (signal content : W) (after : Memory) (queue :
     actors = (let c = ap created_in rest.flight in omega (arith, k.actors, c, filling.used_is));
     used_room = omega (arith, k.used_room, filling.used_is, room);
     roll_room = omega (arith, k.roll_room, room);
+    known = k.known;
   }
 
   pub state-filled : state_of filled ≡ record (state_of p) { store = with_content (seen p.quads.store) signal content; messages = (state_of p).messages ++ record { number = length p.queue.given; event = signal } ∷ []; next_number = suc (length p.queue.given) }

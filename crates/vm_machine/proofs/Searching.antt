@@ -48,6 +48,7 @@ kept-stuck p b k = record {
   actors = k.actors;
   used_room = k.used_room;
   roll_room = k.roll_room;
+  known = k.known;
 }
 
 -- each sponsor in the store has a row

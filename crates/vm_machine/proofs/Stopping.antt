@@ -102,6 +102,7 @@ module _ (p : Parts) (k : Kept p) (who : W) (named : Among who (names p.sheet.ro
     actors = (let c = ap created_in rest.flight in omega (arith, k.actors, c, same-used));
     used_room = omega (arith, k.used_room, same-used, keeps.same_room);
     roll_room = omega (arith, k.roll_room, keeps.same_room);
+    known = k.known;
   }
 
   pub state-stopped : state_of stopped ≡ record (state_of p) { sheet = stop (sheet_in p.quads p.sheet) who }

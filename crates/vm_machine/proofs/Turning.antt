@@ -1,7 +1,6 @@
 -- One turn, put together.
-use Rattle.std.proofs.Common.{◌≡◌, ℕ, ◌%◌, List, [], length, Option, Some, None, Result, Ok, Err, Bool, true, ap, refl, sym, ◌∙◌, subst}
+use Rattle.std.proofs.Common.{◌≡◌, ℕ, ◌%◌, List, length, Option, Some, None, Result, Ok, Err, Bool, true, ap, sym, ◌∙◌, subst}
 use Rattle.std.specs.Prelude.{slice_get, option_map}
-use Rattle.hum_outside.specs.Outside.{appended}
 use Rattle.cap_words.specs.Words.{W}
 use Rattle.vm_sponsor.specs.declared.amounts.Amounts.{Amounts}
 use Rattle.vm_devices.specs.declared.delivery.WriteFault.{WriteFault}
@@ -21,7 +20,6 @@ use Rattle.vm_machine.specs.Whole.{Waits}
 use Rattle.vm_machine.specs.Steps.{TakesOne}
 use Rattle.vm_machine.specs.Turns.{Takes}
 use Rattle.vm_machine.proofs.Searching.{waits-next}
-use Rattle.vm_machine.proofs.Delivering.{appended-none}
 
 -- what was written is no part of what every turn keeps
 pub unwritten-sound : (grant : Amounts) (s : State) → Sound grant s → Sound grant (unwritten s)
@@ -58,12 +56,6 @@ turn-dispatches s pick number given out h = ap (unless_spent s pick) out ∙ ap 
 pub turn-steps : (s : State) (pick : ℕ) (given : List W) → s.out_of ≡ None → option_map (message_of given) None ≡ dispatchable s
     → turn s pick ≡ step s (pick % length s.flight) (slice_get s.flight (pick % length s.flight))
 turn-steps s pick given out h = ap (unless_spent s pick) out ∙ ap (go s pick) (sym h)
-
--- an instruction writes nothing
-pub takes-step : (s t : State) (pick : ℕ) (a : Answer) (before : Option (List ℕ)) → turn s pick ≡ (t, a) → t.output ≡ [] → Takes (turn s pick) (Ok a) s t before before
-takes-step s t pick a before e quiet =
-    subst (λ (x : State × Answer). Takes x (Ok a) s t before before) (sym e)
-    ((λ j. record t { output = quiet j }), refl, sym (appended-none before) ∙ ap (appended before) (sym quiet))
 
 -- where a message was found the search is not given up
 pub found-loose : (s : State) (b : Bool) (number : ℕ) (given : List W) → (b ≡ true → Waits s) → option_map (message_of given) (Some number) ≡ dispatchable s → b ≡ true → ⊥

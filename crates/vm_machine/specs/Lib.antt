@@ -1,6 +1,7 @@
 pub mod Messages
 pub mod Flight
 pub mod View
+pub mod Known
 pub mod Whole
 pub mod Steps
 pub mod Turns

@@ -1,7 +1,7 @@
 -- What is seen of a machine.
-use Rattle.std.specs.Prelude.{◌≡◌, ℕ, if◌then◌else◌, Option, Result, Ok, Err}
+use Rattle.std.specs.Prelude.{◌≡◌, ℕ, IsTrue, if◌then◌else◌, Option, Result, Ok, Err}
 use Rattle.cap_words.specs.Words.{W}
-use Rattle.quad_memory.specs.Image.{RomImage}
+use Rattle.quad_memory.specs.Image.{RomImage, is_image}
 use Rattle.quad_memory.specs.Memory.{Memory}
 use Rattle.vm_sponsor.specs.declared.amounts.Amounts.{Amounts}
 use Rattle.vm_sponsor.specs.Ledger.{Ledger}
@@ -39,8 +39,9 @@ turns_by out (Err fault) = 0
 abbrev pub image_of : Parts → W → RomImage
 image_of p boot = record { boot = boot; cells = p.quads.store.rom }
 
--- the parts stand for the run after n turns, each of them completed, and the generator's number is the one after n draws
+-- the parts stand for the run of an image after n turns, each of them completed, and the generator's number is the one after n draws
 pub record Follows (p : Parts) (boot : W) (seed drawn n : ℕ) : Type 0 where
+  pub image_is : IsTrue (is_image boot p.quads.store.rom)
   pub run_is : state_of p ≡ drawn_run (image_of p boot) p.grant p.lanes seed n
   pub turns_are : completed (booted (image_of p boot) p.grant p.lanes) (picks seed n) ≡ n
   pub drawn_is : drawn ≡ drawn_after seed n

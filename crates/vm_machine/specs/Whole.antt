@@ -16,6 +16,7 @@ use Rattle.vm_turn.specs.Sound.{Sound}
 use Rattle.vm_turn.specs.Authority.{WordsTaken}
 use Rattle.vm_machine.specs.declared.parts.Parts.{Parts}
 use Rattle.vm_machine.specs.View.{state_of}
+use Rattle.vm_machine.specs.Known.{Knows}
 use Rattle.vm_machine.specs.Flight.{flight_of, Flies, Separate, Pairwise}
 
 -- how many cycles were spent
@@ -27,7 +28,7 @@ abbrev pub created_in : List Flying → ℕ
 created_in flight = sum_by (λ (l : Flying). length l.effects.created) flight
 
 -- the sheet keeps in step with the quads, and an instruction makes three transfers at most; the lanes keep their facts, and no quad is two
--- lanes' own; and all memory is taken: there is room for all lanes, numbers, entries and actors
+-- lanes' own; all memory is taken: there is room for all lanes, numbers, entries and actors; and the words that it knows are those of boot
 pub record Kept (p : Parts) : Type 0 where
   pub books : Books p.quads p.sheet
   pub transfers : p.sheet.transfers ≤ 3 * cycles_spent (sheet_in p.quads p.sheet)
@@ -46,6 +47,7 @@ pub record Kept (p : Parts) : Type 0 where
   pub actors : length p.roll.items + created_in (flight_of p.quads.store p.flight.items) ≤ used p.quads.store
   pub used_room : used p.quads.store ≤ p.quads.room
   pub roll_room : p.quads.room ≤ vec_capacity p.roll
+  pub known : Knows p.known
 
 -- where a search found no message that can go, none can
 abbrev pub Waits : State → Type 0

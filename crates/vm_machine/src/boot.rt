@@ -9,13 +9,15 @@ ghost use Rattle.cap_words.specs.declared.word.Tag.TheVariants.{Ordinary};
 ghost use Rattle.quad_memory.specs.Memory.{with_store};
 ghost use Rattle.quad_memory.specs.Cells.{actor_cells};
 ghost use Rattle.instr_table.specs.Lists.{pair_quad};
-ghost use Rattle.vm_turn.specs.State.{println_device, say_device};
+ghost use Rattle.vm_sponsor.specs.declared.amounts.Amounts.{Amounts};
+ghost use Rattle.vm_sponsor.specs.Sheets.{root_account, sheet_of, Belongs};
+ghost use Rattle.vm_turn.specs.State.{root, println_device, say_device};
 ghost use Rattle.vm_turn.specs.Boot.{first_actor, boot_slots, booted};
 ghost use Rattle.vm_machine.specs.View.{state_of};
 ghost use Rattle.vm_machine.specs.Whole.{Whole};
 
 use crate::NoMemory;
-use crate::parts::Parts;
+use crate::parts::{Known, Parts};
 use cap_words::{Quad, Word};
 use event_queue::Queue;
 use quad_memory::{ActorCell, EventCell, Image, Quads};
@@ -53,7 +55,13 @@ pub(crate) fn boot(
     let messages = grant.events() + 1;
     let mut quads = Quads::with_room(alloc, image, room)?;
     let sheet = Sheet::with_root(alloc, SPONSORS, &mut quads, grant)?;
-    let words = take_actors(&mut quads, image.boot());
+    let root = root_of(&sheet, &quads);
+    let words = take_actors(&mut quads, image.boot(), root);
+    let known = Known {
+        root,
+        println: words.println,
+        say: words.say,
+    };
     let queue = first_queue(alloc, messages, words.event)?;
     let roll = first_roll(alloc, room, words)?;
     let flight = Vec::with_capacity(alloc, lanes as usize)?;
@@ -68,15 +76,29 @@ pub(crate) fn boot(
         journal,
         out_of: None,
         grant,
+        known,
         stuck: false,
     })
 }
 
+// The word of the root sponsor, the only one at boot.
+fn root_of(sheet: &Sheet, quads: &Quads) -> Word
+    requires belongs { Belongs quads.now.store sheet.now }
+    requires alone { (grant : Amounts) × (sheet_of quads.now.store sheet.now.rows ≡ root_account root grant ∷ []) }
+    ensures { result ≡ root }
+{
+    match sheet.row(quads, 0) {
+        Some(row) => row.sponsor,
+        None => unreachable!(),
+    }
+}
+
 // Takes the quads after the root sponsor's: the devices, the list of both from its end, the first actor with that list as its state, and
-// message 0 for it.
-fn take_actors(quads: &mut Quads, code: Word) -> BootWords
+// message 0 for it under that sponsor.
+fn take_actors(quads: &mut Quads, code: Word, sponsor: Word) -> BootWords
     requires used { used quads.old.store ≡ 2 }
     requires free { 8 ≤ quads.old.room }
+    requires sponsor { sponsor ≡ root }
     ensures words { result ≡ record { println = println_device; say = say_device; first = first_actor; event = Cap 7 } }
     ensures seen { seen quads.new.store ≡ grown (seen quads.old.store) (drop 2 (boot_slots code)) }
     ensures frame { Framed quads.old.store quads.new.store [] }
@@ -88,7 +110,7 @@ fn take_actors(quads: &mut Quads, code: Word) -> BootWords
     let devices = take_pair(quads, println, end);
     let first = take_idle(quads, code, devices);
     let event = quads.take_event(EventCell {
-        sponsor: Word::cap(0),
+        sponsor,
         target: first,
         message: Word::NIL,
         next: Word::NIL,

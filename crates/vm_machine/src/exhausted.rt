@@ -128,7 +128,7 @@ fn end_run(parts: &mut Parts, who: Word, kind: Quota, entry: Entry) -> Turn
     ensures stuck { parts.new.stuck ≡ parts.old.stuck }
     ensures grant { parts.new.grant ≡ parts.old.grant }
 {
-    let root = Word::cap(0);
+    let root = parts.known.root;
     if is_same(who, root) {
         parts.out_of = Some(kind);
         return Turn::Spent {

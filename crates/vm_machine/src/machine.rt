@@ -1,14 +1,18 @@
 // A machine whose picks a seed draws.
 
-ghost use Rattle.std.specs.Prelude.{◌≡◌, ◌+◌, ◌*◌, ◌≤◌, ◌<◌, ◌^◌, length, slice_get, IfOk, IsSome, true, false};
+ghost use Rattle.std.specs.Prelude.{◌≡◌, ◌+◌, ◌*◌, ◌≤◌, ◌<◌, ◌^◌, length, slice_get, IfOk, IsSome, IsTrue, true, false};
 ghost use Rattle.cap_words.specs.Store.{Store};
 ghost use Rattle.cap_words.specs.Seen.{seen};
 ghost use Rattle.hum_outside.specs.Outside.{HasCause};
+ghost use Rattle.quad_memory.specs.Image.{is_image};
+ghost use Rattle.instr_table.specs.Sheet.{held};
 ghost use Rattle.instr_table.specs.Lane.{Lane as Flying};
 ghost use Rattle.instr_table.specs.Reach.{Every};
+ghost use Rattle.vm_sponsor.specs.Grant.{is_grant};
 ghost use Rattle.vm_sponsor.specs.Sheets.{Belongs};
 ghost use Rattle.event_queue.specs.Pending.{IsAscending};
 ghost use Rattle.vm_step.specs.Step.{sheet_in};
+ghost use Rattle.vm_turn.specs.State.{root};
 ghost use Rattle.vm_turn.specs.Boot.{booted};
 ghost use Rattle.vm_turn.specs.Run.{drawn, drawn_after, pick_of, not_rest, unless_out};
 ghost use Rattle.vm_turn.specs.Turn.{is_in_flight, turn};
@@ -155,9 +159,14 @@ impl Machine {
     }
 
     /// How many turns were completed. The state is the written run's after so many, over the picks of the seed, and there are never more
-    /// than the cycles and twice the messages that were granted, message 0 among these.
+    /// than the cycles and twice the messages that were granted, message 0 among these. The image of that run keeps its rules, as the laws on
+    /// authority ask, its grant is within the limits, and its lanes are 1 to 64.
     pub fn turns(&self) -> u64
         ensures value { result ≡ self.now.turns }
+        ensures image { IsTrue (is_image self.now.image.boot self.now.image.cells) }
+        ensures grant { IsTrue (is_grant self.now.grant.memory self.now.grant.events self.now.grant.cycles) }
+        ensures some_lanes { 1 ≤ self.now.state.lanes }
+        ensures lanes_limit { self.now.state.lanes ≤ 64 }
         ensures run { self.now.state ≡ drawn_run self.now.image self.now.grant self.now.state.lanes self.now.seed result }
         ensures bound { result ≤ self.now.grant.cycles + 2 * (self.now.grant.events + 1) }
     {
@@ -169,6 +178,15 @@ impl Machine {
         ensures { result ≡ self.now.state.out_of }
     {
         self.parts.out_of
+    }
+
+    /// What the root sponsor holds of a kind.
+    pub fn root_holds(&self, kind: Quota) -> u32
+        ensures { result ≡ held self.now.state.sheet root kind }
+    {
+        self.parts
+            .sheet
+            .held(&self.parts.quads, self.parts.known.root, kind)
     }
 
     /// The entries of the events that ended, in order.
@@ -213,7 +231,8 @@ impl Machine {
         &self.parts.queue
     }
 
-    /// The committed actor with that number, from 0 on in order of creation, or None beyond the last.
+    /// The committed actor with that number, or None beyond the last: 0 is the first actor, 1 `println`, 2 `say`, and then come those that
+    /// events created, in the order of their commits, and of one commit in the order of creation.
     pub fn actor_at(&self, n: u32) -> Option<Word>
         ensures { result ≡ slice_get self.now.state.roll n }
     {

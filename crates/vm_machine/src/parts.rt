@@ -10,6 +10,14 @@ use vm_sponsor::{Grant, Sheet};
 use vm_step::Lane;
 use vm_turn::Entry;
 
+// The words of the root sponsor and of the devices, as the memory of quads gave them at boot.
+#[derive(Clone, Copy)]
+pub(crate) struct Known {
+    pub(crate) root: Word,
+    pub(crate) println: Word,
+    pub(crate) say: Word,
+}
+
 // All that a machine keeps between turns.
 #[derive(Drop)]
 pub(crate) struct Parts {
@@ -26,6 +34,7 @@ pub(crate) struct Parts {
     // What the root sponsor ran out of.
     pub(crate) out_of: Option<Quota>,
     pub(crate) grant: Grant,
+    pub(crate) known: Known,
     // Whether a search found no message that can go, and nothing has happened since that may change this.
     pub(crate) stuck: bool,
 }

@@ -13,11 +13,12 @@ ghost use Rattle.event_queue.specs.Starts.{can_start, StartsFirst};
 ghost use Rattle.hum_outside.specs.Outside.{HasCause};
 ghost use Rattle.vm_step.specs.declared.lane.Lane.{Lane};
 ghost use Rattle.vm_machine.specs.View.{state_of};
+ghost use Rattle.vm_machine.specs.Known.{Knows};
 ghost use Rattle.vm_machine.specs.Whole.{Kept};
 ghost use Rattle.vm_machine.specs.Deliveries.{end_by};
 ghost use Rattle.vm_machine.specs.Turns.{Takes, Quiet};
 
-use crate::parts::{Parts, note};
+use crate::parts::{Known, Parts, note};
 use cap_words::{Word, is_same};
 use hum_outside::Sink;
 use quad_memory::{ActorCell, EventCell, Quads};
@@ -100,13 +101,14 @@ fn outcome_of(done: Done) -> Outcome
 }
 
 // The device that a word names, known by its cell.
-fn device_of(target: Word) -> Option<u32>
+fn device_of(known: &Known, target: Word) -> Option<u32>
+    requires { Knows known.now }
     ensures device { result ≡ device_of target }
     ensures few { IfSome result (λ d. d < 2) }
 {
-    if is_same(target, Word::cap(2)) {
+    if is_same(target, known.println) {
         Some(0)
-    } else if is_same(target, Word::cap(3)) {
+    } else if is_same(target, known.say) {
         Some(1)
     } else {
         None
@@ -135,7 +137,7 @@ pub(crate) fn dispatch<K: Sink>(
 {
     let event = event_word(parts, number);
     let cell = event_cell(&parts.quads, event);
-    match device_of(cell.target) {
+    match device_of(&parts.known, cell.target) {
         Some(device) => deliver(parts, scratch, number, device, cell.message, out),
         None => {
             begin(parts, number, event);

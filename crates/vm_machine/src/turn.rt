@@ -116,7 +116,7 @@ pub(crate) fn turn<K: Sink>(
 {
     if let Some(kind) = parts.out_of {
         return Ok(Turn::Spent {
-            sponsor: Word::cap(0),
+            sponsor: parts.known.root,
             kind,
         });
     }

@@ -10,7 +10,7 @@ use Rattle.quad_memory.specs.Image.{RomImage}
 use Rattle.vm_sponsor.specs.declared.amounts.Amounts.{Amounts}
 use Rattle.instr_table.specs.declared.charge.Quota.TheVariants.{Cycles}
 use Rattle.instr_table.specs.declared.op.Op.{Op}
-use Rattle.instr_table.specs.declared.op.Op.TheVariants.{Push, Dup, Roll, Msg, State, My, QuadMake, Get, ActorSend, ActorPost, ActorCreate, ActorBecome, End, SponsorNew, SponsorGrant, SponsorStart, Debug}
+use Rattle.instr_table.specs.declared.op.Op.TheVariants.{Push, Dup, Pick, Roll, Msg, State, My, QuadMake, Get, ActorSend, ActorPost, ActorCreate, ActorBecome, End, SponsorNew, SponsorGrant, SponsorStart, Debug}
 use Rattle.instr_table.specs.Types.{look_up}
 use Rattle.instr_table.specs.Lists.{pair_quad}
 use Rattle.instr_table.specs.Spelling.{spelled}
@@ -25,7 +25,7 @@ use Rattle.vm_turn.specs.Boot.{booted}
 use Rattle.vm_turn.specs.Piece.{tree_to, numbers_to, piece}
 use Rattle.vm_turn.specs.Turn.{entry, turn}
 use Rattle.vm_turn.specs.Run.{after, run, answers, completed, picks}
-use Rattle.vm_turn.specs.Authority.{EventOf, made_since, handed_on}
+use Rattle.vm_turn.specs.Authority.{EventOf, made_since, posted_next, handed_on}
 
 -- an image that begins with its first cell
 abbrev image : List Quad → RomImage
@@ -396,3 +396,23 @@ it_made_an_actor = refl
 it_hands_on : handed_on (turn (after (turn (booted creates (grant 100 10 100) 1) 0).0 (zeros 5)) 0).0.store first_lane ≡ Ram 5 ∷ Rom 16 ∷ Cap 11 ∷ Rom 1 ∷ Fix (pos 0) ∷ Cap 11 ∷ Fix (pos 7) ∷ []
 unfolding look_up
 it_hands_on = refl
+
+-- the first actor starts a sponsor, and posts its word to a new actor under it; the event of that message, which that sponsor pays for,
+-- posts under it again
+abbrev posts_twice : RomImage
+posts_twice = listing (
+    SponsorNew ∷ p 10 ∷ SponsorGrant (pos 1) ∷ p 10 ∷ SponsorGrant (pos 2) ∷ p 10 ∷ SponsorGrant (pos 3) ∷
+    Dup (pos 1) ∷ My (pos 0) ∷ SponsorStart ∷ Push nil ∷ Push (Rom 32) ∷ ActorCreate ∷ Pick (pos 2) ∷ ActorPost ∷ End (pos 1) ∷
+    p 7 ∷ My (pos 0) ∷ Msg (pos 0) ∷ ActorPost ∷ End (pos 1) ∷ [])
+
+-- before its fourth instruction
+abbrev before_its_post : Machine
+before_its_post = watched (booted posts_twice (grant 100 50 100) 1) (zeros 21)
+
+names_its_payer : map (λ (l : Lane). l.own.sponsor ∷ posted_next before_its_post l) before_its_post.flight ≡ (Cap 8 ∷ Cap 8 ∷ []) ∷ []
+unfolding look_up watched
+names_its_payer = refl
+
+its_post_goes_on : (turn before_its_post 0).1 ≡ Stepped
+unfolding look_up watched
+its_post_goes_on = refl

@@ -19,6 +19,7 @@ pub mod Started
 pub mod Actors
 pub mod FlightActors
 pub mod Commits
+pub mod Posted
 pub mod Order
 pub mod Images
 pub mod Root

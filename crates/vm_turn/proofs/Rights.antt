@@ -23,7 +23,7 @@ use Rattle.vm_turn.specs.Actors.{sent_at}
 use Rattle.vm_turn.specs.Turn.{signal_number, dispatchable, without, own_of, begin, delivered, refused, finish, go_on, released, run_out, turn, numbered_from}
 use Rattle.vm_turn.specs.Run.{after, run}
 use Rattle.vm_turn.specs.Sound.{Sound, numbers, Other, Has}
-use Rattle.vm_turn.specs.Authority.{LaneTaken, WordsTaken, new_words, made_by, made_in, made_at, made_since, had, EventsKeepAuthority}
+use Rattle.vm_turn.specs.Authority.{LaneTaken, WordsTaken, new_words, made_by, made_next, noted_in, noted_at, made_since, had, EventsKeepAuthority}
 use Rattle.vm_turn.proofs.Bound.{dispatchable-chosen}
 use Rattle.vm_turn.proofs.Numbers.{numbers-set}
 use Rattle.vm_turn.proofs.Slots.{Alike, alike-busy, alike-content, alike-settled, alike-then, alike-refl}
@@ -203,7 +203,7 @@ module _ (P : W → Type 0) (number : ℕ) where
   abbrev pub Holds : List W → State → Type 0
   Holds made t = (i : ℕ) (l : Lane) → slice_get t.flight i ≡ Some l → l.number ≡ number → (w : W) → Reach t.store (lane_words l) w → P w ⊎ Among w made
 
-  widen : (w : W) (made more : List W) → P w ⊎ Among w made → P w ⊎ Among w (made ++ more)
+  pub widen : (w : W) (made more : List W) → P w ⊎ Among w made → P w ⊎ Among w (made ++ more)
   widen w made more (inl p) = inl p
   widen w made more (inr a) = inr (among-left w made more a)
 
@@ -232,14 +232,14 @@ module _ (P : W → Type 0) (number : ℕ) where
         by (inr old) = holds-old [] (begin s m.number (sent_at s.store m.event)).store j k (begin-reads s m.number (sent_at s.store m.event)) old e w r
 
     module _ (pick : ℕ) (l : Lane) (g : Going) (at : IsPicked s pick l) (is : (lane_row s.store s.sheet l).outcome ≡ Goes g) where
-      made-is : l.number ≡ number → made_at s number pick Stepped ≡ new_words (next_quad s.store) g.made
+      made-is : l.number ≡ number → noted_at made_next number s pick Stepped ≡ new_words (next_quad s.store) g.made
       made-is e =
-          ap (λ (o : Option Lane). made_in s number o) at
+          ap (λ (o : Option Lane). noted_in made_next number s o) at
           ∙ (ap (λ (b : Bool). if b then made_by s.store (lane_row s.store s.sheet l).outcome else []) (nat-same l.number number e)
           ∙ ap (λ (o : Outcome). made_by s.store o) is)
 
       -- the event that takes the instruction
-      holds-gone : l.number ≡ number → (w : W) → Reach (after_going s.store l.stack g).0 (lane_words (gone s.store l g)) w → P w ⊎ Among w (made ++ made_at s number pick Stepped)
+      holds-gone : l.number ≡ number → (w : W) → Reach (after_going s.store l.stack g).0 (lane_words (gone s.store l g)) w → P w ⊎ Among w (made ++ noted_at made_next number s pick Stepped)
       holds-gone e w r = by ((keeps-authority s.store s.sheet l g is old).1 w r)
         where
           t : LaneTaken (next_quad s.store) l
@@ -248,21 +248,21 @@ module _ (P : W → Type 0) (number : ℕ) where
           old : AllTaken s.store l
           old = record { image = taken.image; cells = taken.cells; stack = t.stack; words = t.words }
 
-          by : Reach s.store (lane_words l) w ⊎ IsMadeBy s.store g w → P w ⊎ Among w (made ++ made_at s number pick Stepped)
+          by : Reach s.store (lane_words l) w ⊎ IsMadeBy s.store g w → P w ⊎ Among w (made ++ noted_at made_next number s pick Stepped)
           by (inl b) = widen w made _ (h (pick % length s.flight) l at e w b)
-          by (inr m) = inr (among-right w made (made_at s number pick Stepped) (subst (λ (ws : List W). Among w ws) (sym (made-is e)) (is-made s.store g w m)))
+          by (inr m) = inr (among-right w made (noted_at made_next number s pick Stepped) (subst (λ (ws : List W). Among w ws) (sym (made-is e)) (is-made s.store g w m)))
 
-      holds-go_on : (sheet : List Account) → Holds (made ++ made_at s number pick Stepped) (go_on s (pick % length s.flight) l sheet g)
+      holds-go_on : (sheet : List Account) → Holds (made ++ noted_at made_next number s pick Stepped) (go_on s (pick % length s.flight) l sheet g)
       holds-go_on sheet j k there e w r = by (at-set s.flight (pick % length s.flight) j (gone s.store l g) k there)
         where
-          by : (gone s.store l g ≡ k) ⊎ (slice_get s.flight j ≡ Some k) → P w ⊎ Among w (made ++ made_at s number pick Stepped)
+          by : (gone s.store l g ≡ k) ⊎ (slice_get s.flight j ≡ Some k) → P w ⊎ Among w (made ++ noted_at made_next number s pick Stepped)
           by (inl same) = holds-gone (ap (λ (x : Lane). x.number) same ∙ e) w (subst (λ (x : Lane). Reach (after_going s.store l.stack g).0 (lane_words x) w) (sym same) r)
           by (inr old) = holds-old _ (after_going s.store l.stack g).0 j k (going-reads s.store l.stack g) old e w r
 
     -- ---- a turn
 
-    turn-holds : (pick : ℕ) → Underway number s → Holds (made ++ made_at s number pick (turn s pick).1) (turn s pick).0 × Underway number (turn s pick).0
-    turn-holds pick u = turn-by s pick (λ t a. Holds (made ++ made_at s number pick a) t × Underway number t) (record {
+    pub turn-holds : (pick : ℕ) → Underway number s → Holds (made ++ noted_at made_next number s pick (turn s pick).1) (turn s pick).0 × Underway number (turn s pick).0
+    turn-holds pick u = turn-by s pick (λ t a. Holds (made ++ noted_at made_next number s pick a) t × Underway number t) (record {
       spent = λ kind out. (same, u);
       rests = λ run waits none. (same, u);
       begins = λ m d.
@@ -291,7 +291,7 @@ module _ (P : W → Type 0) (number : ℕ) where
   holds-since s [] made taken h u = subst (λ (ws : List W). Holds ws s) (sym (append-nil made)) h
   holds-since s (p ∷ ps) made taken h u =
       let t = turn-holds s taken made h p u in
-      subst (λ (ws : List W). Holds ws (after s (p ∷ ps))) (append_assoc made (made_at s number p (turn s p).1) (made_since (turn s p).0 number ps)) (holds-since (turn s p).0 ps (made ++ made_at s number p (turn s p).1) (turn-taken s p taken) t.0 t.1)
+      subst (λ (ws : List W). Holds ws (after s (p ∷ ps))) (append_assoc made (noted_at made_next number s p (turn s p).1) (made_since (turn s p).0 number ps)) (holds-since (turn s p).0 ps (made ++ noted_at made_next number s p (turn s p).1) (turn-taken s p taken) t.0 t.1)
 
 -- ---- dispatch
 
@@ -342,10 +342,16 @@ module _ {grant : Amounts} (s : State) (ok : Sound grant s) (taken : WordsTaken 
       let e = p.3 in
       record { was_given = omega (arith, g, e); ended = λ o h. other-last m.number s.flight (begun m.number own) refl o }
 
-  pub flight-holds : (pick : ℕ) → (turn s pick).1 ≡ Dispatched → (ps : List ℕ) → Holds (Reach s.store (had own)) m.number (made_since (turn s pick).0 m.number ps) (after (turn s pick).0 ps)
-  flight-holds pick h ps =
-      let is = sym (dispatched-is pick h) in
-      holds-since (Reach s.store (had own)) m.number (turn s pick).0 ps [] (turn-taken s pick taken) (subst (λ (t : State). Holds (Reach s.store (had own)) m.number [] t) is begun-holds) (subst (λ (t : State). Underway m.number t) is begun-underway)
+  -- what holds after the turn that dispatches it
+  module _ (pick : ℕ) (begins : (turn s pick).1 ≡ Dispatched) where
+    pub dispatched-holds : Holds (Reach s.store (had own)) m.number [] (turn s pick).0
+    dispatched-holds = subst (λ (t : State). Holds (Reach s.store (had own)) m.number [] t) (sym (dispatched-is pick begins)) begun-holds
+
+    pub dispatched-underway : Underway m.number (turn s pick).0
+    dispatched-underway = subst (λ (t : State). Underway m.number t) (sym (dispatched-is pick begins)) begun-underway
+
+    flight-holds : (ps : List ℕ) → Holds (Reach s.store (had own)) m.number (made_since (turn s pick).0 m.number ps) (after (turn s pick).0 ps)
+    flight-holds ps = holds-since (Reach s.store (had own)) m.number (turn s pick).0 ps [] (turn-taken s pick taken) dispatched-holds dispatched-underway
 
 -- ---- laws
 

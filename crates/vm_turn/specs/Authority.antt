@@ -1,13 +1,16 @@
 -- What an event may have: what it had at its dispatch, and what it made since.
-use Rattle.std.specs.Prelude.{◌≡◌, ◌⊎◌, ℕ, suc, ◌%◌, nat_eq, if◌then◌else◌, IsTrue, List, [], ◌∷◌, ◌++◌, length, Option, Some, None, slice_get}
+use Rattle.std.specs.Prelude.{◌≡◌, ◌⊎◌, ℕ, suc, ◌%◌, nat_eq, if◌then◌else◌, Bool, true, false, IsTrue, List, [], ◌∷◌, ◌++◌, length, Option, Some, None, slice_get}
 use Rattle.cap_words.specs.Words.{W, Cap}
 use Rattle.cap_words.specs.Seen.{Seen, Slot}
 use Rattle.cap_words.specs.Frame.{Among}
 use Rattle.quad_memory.specs.Image.{RomImage, is_image}
-use Rattle.instr_table.specs.Lists.{next_quad}
+use Rattle.instr_table.specs.declared.op.Op.{Op}
+use Rattle.instr_table.specs.declared.op.Op.TheVariants.{ActorPost}
+use Rattle.instr_table.specs.Code.{fetched}
+use Rattle.instr_table.specs.Lists.{next_quad, item}
 use Rattle.instr_table.specs.Event.{Own}
 use Rattle.instr_table.specs.Outcome.{Outcome, Goes, Faults, Commits}
-use Rattle.instr_table.specs.Lane.{Lane, lane_row}
+use Rattle.instr_table.specs.Lane.{Lane, values, lane_row}
 use Rattle.instr_table.specs.Reach.{Every, Reach, is_made}
 use Rattle.instr_table.specs.Authority.{lane_words, effects_words, IsTaken, SlotTaken, ImageCell, ItemTaken}
 use Rattle.vm_sponsor.specs.declared.amounts.Amounts.{Amounts}
@@ -45,23 +48,54 @@ made_by s (Goes g) = new_words (next_quad s) g.made
 made_by s (Faults w) = []
 made_by s Commits = []
 
--- those that the next instruction of an event makes, where it is the event of that number
-abbrev pub made_in : State → ℕ → Option Lane → List W
-made_in s number None = []
-made_in s number (Some l) = if nat_eq l.number number then made_by s.store (lane_row s.store s.sheet l).outcome else []
+-- ---- which sponsor an event names
 
--- those that a turn with that answer makes for it
-abbrev pub made_at : State → ℕ → ℕ → Answer → List W
-made_at s number pick Dispatched = []
-made_at s number pick Stepped = made_in s number (slice_get s.flight (pick % length s.flight))
-made_at s number pick (Finished e) = []
-made_at s number pick Rest = []
-made_at s number pick (Spent sponsor kind) = []
+-- whether the operation is `actor post`
+abbrev pub is_post : Op → Bool
+is_post ActorPost = true
+is_post op = false
 
--- those that turns with these picks make for it
+-- the sponsor that an instruction names in `actor post`
+abbrev pub posted_by : Option (Op × W) → List W → List W
+posted_by None vs = []
+posted_by (Some o) vs = if is_post o.0 then item vs 1 ∷ [] else []
+
+-- ---- what is noted of an event, turn by turn
+
+module _ (note : State → Lane → List W) (number : ℕ) where
+  -- what is noted of an event's next instruction, where it is the event of that number
+  abbrev pub noted_in : State → Option Lane → List W
+  noted_in s None = []
+  noted_in s (Some l) = if nat_eq l.number number then note s l else []
+
+  -- what is noted in a turn with that answer: an instruction after which the event goes on
+  abbrev pub noted_at : State → ℕ → Answer → List W
+  noted_at s pick Dispatched = []
+  noted_at s pick Stepped = noted_in s (slice_get s.flight (pick % length s.flight))
+  noted_at s pick (Finished e) = []
+  noted_at s pick Rest = []
+  noted_at s pick (Spent sponsor kind) = []
+
+  -- what is noted in turns with these picks
+  abbrev pub noted_since : State → List ℕ → List W
+  noted_since s [] = []
+  noted_since s (p ∷ ps) = noted_at s p (turn s p).1 ++ noted_since (turn s p).0 ps
+
+-- the actors and sponsors that the next instruction of an event makes
+abbrev pub made_next : State → Lane → List W
+made_next s l = made_by s.store (lane_row s.store s.sheet l).outcome
+
+-- the sponsor that it names, where it is `actor post`: the item on top
+abbrev pub posted_next : State → Lane → List W
+posted_next s l = posted_by (fetched s.store l.code) (values l.stack)
+
+-- the actors and sponsors that the event of that number made in turns with these picks
 abbrev pub made_since : State → ℕ → List ℕ → List W
-made_since s number [] = []
-made_since s number (p ∷ ps) = made_at s number p (turn s p).1 ++ made_since (turn s p).0 number ps
+made_since s number ps = noted_since made_next number s ps
+
+-- the sponsors that it named in `actor post`
+abbrev pub posted_since : State → ℕ → List ℕ → List W
+posted_since s number ps = noted_since posted_next number s ps
 
 -- ---- what an event may have
 
@@ -115,6 +149,13 @@ EventsKeepAuthority =
     (image : RomImage) (grant : Amounts) (lanes : ℕ) → IsTrue (is_image image.boot image.cells)
     → (e : EventOf image grant lanes) (w : W)
     → Reach (present e).store (lane_words e.lane) w → MayHave e w
+
+-- and those sponsors alone it names in `actor post`, also where it names the one that pays for it
+abbrev pub PostsKeepAuthority : Type 0
+PostsKeepAuthority =
+    (image : RomImage) (grant : Amounts) (lanes : ℕ) → IsTrue (is_image image.boot image.cells)
+    → (e : EventOf image grant lanes) (w : W)
+    → Among w (posted_since (begun_in e) e.message.number e.since) → MayHave e w
 
 -- what an event has handed on, in the store after its commit: its actor's state and code, the actors that it created with theirs, and the
 -- targets and contents of the messages that it sent, with the sponsors that they are under where these are not its own

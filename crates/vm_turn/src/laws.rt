@@ -6,7 +6,7 @@ ghost use Rattle.vm_turn.specs.Image.{ImagesStay, CodeStaysInImages, FlightsFitL
 ghost use Rattle.vm_turn.specs.Alone.{RootStaysAlone};
 ghost use Rattle.vm_turn.specs.Roll.{RollsStand, EndedActorsRest};
 ghost use Rattle.vm_turn.specs.Spending.{EventsSpendWhatIsPaid};
-ghost use Rattle.vm_turn.specs.Authority.{EventsHaveBegun, EventsKeepAuthority, CommitsKeepAuthority};
+ghost use Rattle.vm_turn.specs.Authority.{EventsHaveBegun, EventsKeepAuthority, CommitsKeepAuthority, PostsKeepAuthority};
 
 /// A machine with C cycles and E events completes at most `C + 2 (E + 1)` turns, whatever its image, its lanes and its picks: each
 /// completed turn spends a cycle, dispatches a message or ends one.
@@ -63,6 +63,11 @@ pub fn events_have_begun()
 /// `sponsor start`.
 pub fn events_keep_authority()
     ensures { EventsKeepAuthority }
+{}
+
+/// So it is of each sponsor that an event names in `actor post`, also where it is the one that pays for the event.
+pub fn posts_keep_authority()
+    ensures { PostsKeepAuthority }
 {}
 
 /// After the turn that commits an event, what it handed on gets at no actor or sponsor but those: its actor's state and code, the actors that

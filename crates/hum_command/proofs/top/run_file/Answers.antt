@@ -1,4 +1,5 @@
 use Rattle.std.proofs.Common.{refl}
+use Rattle.hum_outside.specs.Outside.{told}
 use Rattle.hum_command.specs.Call.{call}
 use Rattle.hum_command.proofs.Causes.{declined_run, ran}
 use Rattle.hum_command.proofs.top.run_file.Goals as goal
@@ -7,9 +8,9 @@ pub returns-in-Err-clause-answered : goal.returns-in-Err-clause-answered
 returns-in-Err-clause-answered g c =
     let w = g.K.Sink.written in
     let a = c.args in
-    declined_run c.in-Err.answer
+    declined_run (told (g.F.Folder.files a.files.now) a.name.now) a.name.now a.keys
     (call g.F.Folder.files g.F.Folder.faults w g.K.Sink.faults a.files.now c.start_file.new.files a.out.now a.out.now a.err.now c.refuse.new.err a.last.now a.last.now)
-    a.name.now a.keys c.in-Err.ensures.fails
+    c.in-Err.answer c.in-Err.ensures.fails
     (record { line = c.refuse.ensures.said; out = refl {a = w a.out.now}; last = refl {a = a.last.now} })
 
 pub returns-in-Ok-clause-answered : goal.returns-in-Ok-clause-answered
@@ -17,9 +18,9 @@ returns-in-Ok-clause-answered g c =
     let a = c.args in
     let done = c.finish_run-answer in
     let started = c.in-Ok.ensures.starts in
-    ran done.result
+    ran (told (g.F.Folder.files a.files.now) a.name.now) a.name.now a.keys
     (call g.F.Folder.files g.F.Folder.faults g.K.Sink.written g.K.Sink.faults a.files.now c.start_file.new.files a.out.now done.new.out a.err.now done.new.err a.last.now c.leave_run.new.self)
-    a.name.now a.keys (record {
+    done.result (record {
       text = started.0;
       is_text = started.1;
       run = done.new.run;
