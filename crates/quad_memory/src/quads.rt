@@ -1,7 +1,7 @@
 // The quads of a machine.
 
 ghost use Rattle.std.specs.Prelude.{◌≡◌, ◌+◌, ◌^◌, ◌<◌, ◌≤◌, if◌then◌else◌, nat_lt, List, length, [], ◌∷◌, ◌++◌, Some, None, IfOk, IsSome, slice_get, vec_len, vec_capacity};
-ghost use Rattle.cap_words.specs.Words.{W, Ram, Cap};
+ghost use Rattle.cap_words.specs.Words.{W, Ram, Cap, kind_of};
 ghost use Rattle.cap_words.specs.Store.{Store, Cell, cell, opaque_cell, spent_cell, tagged, same_tag, rom_cell, used, taken, changed, cell_as, cap_place};
 ghost use Rattle.quad_memory.specs.Memory.{with_store};
 ghost use Rattle.quad_memory.specs.Cells.{actor_words, event_words, actor_cells, event_cells, sponsor_cells, actor_at, event_at, sponsor_at, sponsor_changed, ram_cell, cells_of};
@@ -38,7 +38,7 @@ impl Model for Quads {
     ghost invariant = { λ m. (vec_len m.tags ≡ vec_len m.quads) × (vec_len m.quads ≤ m.room) × (m.room ≤ vec_capacity m.quads) × (m.room ≤ vec_capacity m.tags) × (m.room ≤ 2 ^ 24 + 256) };
 }
 
-#[tactic(auto, using(crate::proofs::Columns::cells))]
+#[tactic(auto, using(crate::proofs::Columns::cells, crate::proofs::Known::known))]
 impl Quads {
     /// The image's cells, with room for `ram` RAM quads, of which none is taken yet.
     pub fn with_room(alloc: Global, image: &Image, ram: u32) -> Result<Quads, NoMemory>
@@ -193,12 +193,39 @@ impl Quads {
         Some(sponsor_in(&held, &spent))
     }
 
+    /// The actor that a word is known to name.
+    pub fn known_actor(&self, w: Word) -> ActorCell
+        requires { IsSome (actor_at self.now.store w) }
+        ensures { actor_at self.now.store w ≡ Some result }
+    {
+        actor_in(&self.quad_at(known_place(w)))
+    }
+
+    /// The event that a word is known to name.
+    pub fn known_event(&self, w: Word) -> EventCell
+        requires { IsSome (event_at self.now.store w) }
+        ensures { event_at self.now.store w ≡ Some result }
+    {
+        event_in(&self.quad_at(known_place(w)))
+    }
+
+    /// The sponsor that a word is known to name.
+    pub fn known_sponsor(&self, w: Word) -> SponsorCell
+        requires { IsSome (sponsor_at self.now.store w) }
+        ensures { sponsor_at self.now.store w ≡ Some result }
+    {
+        let place = known_place(w);
+        let held = self.quad_at(place);
+        let spent = self.quad_at(place + 1);
+        sponsor_in(&held, &spent)
+    }
+
     /// Changes the actor that a word names.
     pub fn set_actor(&mut self, w: Word, c: ActorCell)
         requires { IsSome (actor_at self.old.store w) }
         ensures { self.new ≡ with_store self.old (changed self.old.store (cap_place w) (cell_as Tag.Actor (actor_words c))) }
     {
-        self.change(opaque_place(w), Tag::Actor, actor_quad(&c));
+        self.change(known_place(w), Tag::Actor, actor_quad(&c));
     }
 
     /// Changes the event that a word names.
@@ -206,7 +233,7 @@ impl Quads {
         requires { IsSome (event_at self.old.store w) }
         ensures { self.new ≡ with_store self.old (changed self.old.store (cap_place w) (cell_as Tag.Event (event_words c))) }
     {
-        self.change(opaque_place(w), Tag::Event, event_quad(&c));
+        self.change(known_place(w), Tag::Event, event_quad(&c));
     }
 
     /// Changes both quads of the sponsor that a word names.
@@ -216,7 +243,7 @@ impl Quads {
     {
         let held = held_quad(&c);
         let spent = spent_quad(&c);
-        let place = opaque_place(w);
+        let place = known_place(w);
         self.change(place, Tag::SponsorHeld, held);
         self.change(place + 1, Tag::SponsorSpent, spent);
     }
@@ -258,6 +285,14 @@ impl Quads {
         }
     }
 
+    // The words of a RAM quad that is taken, whatever it was taken for.
+    fn quad_at(&self, place: u32) -> Quad
+        requires { place < used self.now.store }
+        ensures { ram_cell self.now.store.ram place ≡ Some result }
+    {
+        self.quads[place as usize]
+    }
+
     // Changes the quad of that number.
     fn change(&mut self, place: u32, tag: Tag, q: Quad)
         requires { place < used self.old.store }
@@ -280,15 +315,13 @@ impl Quads {
     }
 }
 
-// The number of the quad that an opaque word names.
-fn opaque_place(w: Word) -> u32
+// The number of the quad that a word names which is known to be opaque.
+fn known_place(w: Word) -> u32
+    requires { kind_of w ≡ Kind.Cap }
     ensures value { result ≡ cap_place w }
     ensures below { result < 2 ^ 29 }
 {
-    match (w.kind(), w.place()) {
-        (Kind::Cap, Some(n)) => n,
-        _ => 0,
-    }
+    w.bits() - 0x6000_0000
 }
 
 // The quad at a place, where it was taken for this.

@@ -17,10 +17,7 @@ fn amount(w: Word) -> u32
     requires { IsAmount w }
     ensures { result ≡ amount_in w }
 {
-    match w.number() {
-        Some(n) => n as u32,
-        None => unreachable!(),
-    }
+    w.bits() - 0x8000_0000
 }
 
 // The word of a number.

@@ -318,10 +318,7 @@ fn sponsor_cell(quads: &Quads, who: Word) -> SponsorCell
     ensures cell { sponsor_at quads.now.store who ≡ Some result }
     ensures amounts { HasAmounts result }
 {
-    match quads.sponsor(who) {
-        Some(c) => c,
-        None => unreachable!(),
-    }
+    quads.known_sponsor(who)
 }
 
 // Adds a row for a new sponsor.
