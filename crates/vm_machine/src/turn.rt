@@ -1,6 +1,6 @@
 // One turn.
 
-ghost use Rattle.std.specs.Prelude.{◌≡◌, ◌<◌, ◌%◌, Some, length, slice_get, true, false};
+ghost use Rattle.std.specs.Prelude.{◌≡◌, ◌<◌, ◌≤◌, ◌%◌, Some, length, slice_get, true, false};
 ghost use Rattle.cap_words.specs.Seen.{seen};
 ghost use Rattle.instr_table.specs.Code.{fetched};
 ghost use Rattle.instr_table.specs.Lane.{Lane as Flying};
@@ -47,7 +47,7 @@ fn starts(quads: &Quads, code: Word) -> bool
     matches!(fetch(quads, code), Some((Op::SponsorStart, _)))
 }
 
-// Forgets that no message can go where the event at that place is to start a sponsor.
+// Forgets that no message can go where the event at that place is to start a sponsor. While one may go there is nothing to forget.
 fn loosen(parts: &mut Parts, place: usize)
     requires whole { Whole parts.old }
     requires place { place < length parts.old.flight.items }
@@ -58,7 +58,7 @@ fn loosen(parts: &mut Parts, place: usize)
     ensures stuck { parts.new.stuck ≡ true → (l : Flying) → slice_get (state_of parts.old).flight place ≡ Some l → starts (fetched (state_of parts.old).store l.code) ≡ false }
 {
     let code = parts.flight[place].code;
-    if starts(&parts.quads, code) {
+    if parts.stuck && starts(&parts.quads, code) {
         parts.stuck = false;
     }
 }
@@ -83,6 +83,17 @@ fn take(parts: &mut Parts, place: usize) -> Turn
     }
 }
 
+// The place that a pick chooses among so many events. Among one, no division is made.
+fn chosen(pick: u32, count: usize) -> usize
+    requires some { 1 ≤ count }
+    ensures { result ≡ pick % count }
+{
+    if count == 1 {
+        return 0;
+    }
+    pick as usize % count
+}
+
 // The event that the pick chooses takes one instruction; where none is in flight the machine is at rest.
 fn take_one(parts: &mut Parts, pick: u32) -> Turn
     requires whole { Whole parts.old }
@@ -96,7 +107,7 @@ fn take_one(parts: &mut Parts, pick: u32) -> Turn
     if count == 0 {
         return Turn::Rest;
     }
-    take(parts, pick as usize % count)
+    take(parts, chosen(pick, count))
 }
 
 // One turn: a message that can go is dispatched, and else an event in flight takes one instruction.
