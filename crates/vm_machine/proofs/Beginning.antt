@@ -13,18 +13,17 @@ use Rattle.cap_words.specs.Seen.{Seen, Slot, OpenSlot, ActorSlot, UnbornSlot, Ev
 use Rattle.cap_words.specs.Frame.{Among, Framed}
 use Rattle.cap_words.proofs.Same.{word_same}
 use Rattle.cap_words.proofs.Places.{get-set_same}
-use Rattle.cap_words.specs.declared.word.Tag.TheVariants.{Actor, Event}
+use Rattle.cap_words.specs.declared.word.Tag.TheVariants.{Actor}
 use Rattle.cap_words.specs.Store.{changed, cell_as}
 use Rattle.cap_words.specs.Seen.{erase_actor}
 use Rattle.cap_words.proofs.Stores.{named}
 use Rattle.cap_words.proofs.Frames.{framed-changed}
-use Rattle.cap_words.proofs.Erased.{seen-changed, slot-seen, actor-there}
+use Rattle.cap_words.proofs.Erased.{seen-changed, actor-there}
 use Rattle.quad_memory.specs.declared.cells.ActorCell.{ActorCell}
 use Rattle.quad_memory.specs.declared.cells.EventCell.{EventCell}
 use Rattle.quad_memory.specs.declared.cells.SponsorCell.{SponsorCell}
 use Rattle.quad_memory.specs.Memory.{Memory, with_store}
-use Rattle.quad_memory.specs.Cells.{sponsor_at, event_at, event_in, actor_at, actor_in, actor_words}
-use Rattle.quad_memory.proofs.Typed.{at-quad}
+use Rattle.quad_memory.specs.Cells.{sponsor_at, event_at, actor_at, actor_in, actor_words}
 use Rattle.instr_table.specs.Event.{Own, Behaviour, Effects, no_effects}
 use Rattle.instr_table.specs.Lane.{Lane as Flying, begun}
 use Rattle.instr_table.specs.Reach.{Every}
@@ -38,6 +37,7 @@ use Rattle.event_queue.specs.Pending.{Pending, IsAscending, without}
 use Rattle.event_queue.specs.Starts.{can_start, runs_by}
 use Rattle.vm_step.specs.declared.lane.Lane.{Lane}
 use Rattle.vm_step.specs.Flight.{own_at, lane_of}
+use Rattle.vm_step.proofs.Known.{event-seen}
 use Rattle.vm_machine.specs.declared.parts.Parts.{Parts}
 use Rattle.vm_machine.specs.Messages.{is_among, unfinished}
 use Rattle.vm_machine.specs.Flight.{flight_of, Flies, Separate, Pairwise}
@@ -100,12 +100,6 @@ startable s w h =
     let a = idle-slot (slot_seen (seen s) e.1) (ap (λ (v : W). is_idle (seen s) v) (sym target) ∙ b.0) in
     let r = running-cell (sponsor_at s e.0) (ap (λ (v : W). runs_by (sponsor_at s v)) (sym sponsor) ∙ b.1) in
     record { sponsor = e.0; target = e.1; content = e.2; event = e.3; code = a.0; state = a.1; actor = a.2; cell = r.0; runs = r.1 }
-
--- the cell of an event, as it is seen
-pub event-seen : (s : Store) (w : W) (cell : EventCell) → event_at s w ≡ Some cell → slot_seen (seen s) w ≡ Some (EventSlot cell.sponsor cell.target cell.message)
-event-seen s w cell h =
-    let q = at-quad event_in s Event w cell h in
-    slot-seen s Event w q.0 q.1 ∙ ap (λ (e : EventCell). Some (EventSlot e.sponsor e.target e.message)) q.2
 
 abbrev target_in : Option Slot → W
 target_in (Some (EventSlot a b m)) = b

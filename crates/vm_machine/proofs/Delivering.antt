@@ -25,6 +25,7 @@ use Rattle.vm_turn.specs.Piece.{piece}
 use Rattle.vm_turn.specs.Turn.{is_in_flight, entry, delivered, deliver, dispatch, device_of, begin}
 use Rattle.event_queue.specs.Pending.{Pending, IsAscending, without}
 use Rattle.vm_step.specs.declared.lane.Lane.{Lane}
+use Rattle.vm_step.proofs.Known.{event-seen}
 use Rattle.vm_machine.specs.declared.parts.Parts.{Parts}
 use Rattle.vm_machine.specs.Messages.{is_among, unfinished}
 use Rattle.vm_machine.specs.Flight.{flight_of, Flies}
@@ -36,7 +37,7 @@ use Rattle.vm_machine.proofs.Lists.{every-more}
 use Rattle.vm_machine.proofs.Messages.{unfinished-ended, without-among}
 use Rattle.vm_machine.proofs.Standing.{ascending-without}
 use Rattle.vm_machine.proofs.Searching.{flying-taken}
-use Rattle.vm_machine.proofs.Beginning.{contains-among, length-without, event-seen}
+use Rattle.vm_machine.proofs.Beginning.{contains-among, length-without}
 use Rattle.vm_machine.proofs.Failing.{append-none}
 
 -- nothing appended

@@ -144,8 +144,5 @@ fn payer_of(quads: &Quads, event: Word) -> Word
     requires { (sponsor : W) × (target : W) × (content : W) × (slot_seen (seen quads.now.store) event ≡ Some (EventSlot sponsor target content)) }
     ensures { result ≡ (sent_at (seen quads.now.store) event).sponsor }
 {
-    match quads.event(event) {
-        Some(cell) => cell.sponsor,
-        None => unreachable!(),
-    }
+    quads.known_event(event).sponsor
 }

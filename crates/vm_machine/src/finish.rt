@@ -83,8 +83,5 @@ fn target_of(quads: &Quads, event: Word) -> Word
     requires { (sponsor : W) × (target : W) × (content : W) × (slot_seen (seen quads.now.store) event ≡ Some (EventSlot sponsor target content)) }
     ensures { result ≡ (sent_at (seen quads.now.store) event).target }
 {
-    match quads.event(event) {
-        Some(cell) => cell.target,
-        None => unreachable!(),
-    }
+    quads.known_event(event).target
 }

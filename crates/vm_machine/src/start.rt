@@ -177,10 +177,7 @@ fn event_cell(quads: &Quads, event: Word) -> EventCell
     requires { can_start quads.now.store event ≡ true }
     ensures { event_at quads.now.store event ≡ Some result }
 {
-    match quads.event(event) {
-        Some(cell) => cell,
-        None => unreachable!(),
-    }
+    quads.known_event(event)
 }
 
 // The cell of an idle actor.
@@ -188,10 +185,7 @@ fn actor_cell(quads: &Quads, actor: Word) -> ActorCell
     requires { (code : W) × (state : W) × (slot_seen (seen quads.now.store) actor ≡ Some (ActorSlot code state undef)) }
     ensures { actor_at quads.now.store actor ≡ Some result }
 {
-    match quads.actor(actor) {
-        Some(cell) => cell,
-        None => unreachable!(),
-    }
+    quads.known_actor(actor)
 }
 
 // The mark of an actor that is busy with the message of that number.

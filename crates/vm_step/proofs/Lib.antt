@@ -1,4 +1,5 @@
 pub mod Stacks
+pub mod Known
 pub mod Moving
 pub mod Flying
 pub mod Going

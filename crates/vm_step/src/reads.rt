@@ -29,12 +29,8 @@ impl OwnWords {
         requires { IsInFlight (seen quads.now.store) event }
         ensures { own_in result ≡ own_at (seen quads.now.store) event }
     {
-        let Some(message) = quads.event(event) else {
-            unreachable!();
-        };
-        let Some(actor) = quads.actor(message.target) else {
-            unreachable!();
-        };
+        let message = quads.known_event(event);
+        let actor = quads.known_actor(message.target);
         OwnWords {
             sponsor: message.sponsor,
             actor: message.target,
