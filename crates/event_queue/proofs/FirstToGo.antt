@@ -1,5 +1,5 @@
 -- The messages that ready numbers stand for, and the first of them that the written turn dispatches.
-use Rattle.std.proofs.Common.{◌≡◌, ℕ, List, [], ◌∷◌, ◌++◌, nat_eq, Option, Some, None, Bool, true, false, if◌then◌else◌, refl, ap, sym, ◌∙◌, inl, inr}
+use Rattle.std.proofs.Common.{◌≡◌, ℕ, List, [], ◌∷◌, Option, Some, None, Bool, true, false, if◌then◌else◌, refl, ap, sym, ◌∙◌, inl, inr}
 use Rattle.std.specs.Prelude.{option_map, ◌&&◌}
 use Rattle.cap_words.specs.Words.{W, same_word}
 use Rattle.cap_words.specs.Store.{Store}

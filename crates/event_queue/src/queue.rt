@@ -75,12 +75,8 @@ impl Queue {
         requires { Contains self.old.ready number }
         ensures { self.new ≡ record self.old { ready = without number self.old.ready } }
     {
-        match self.ready.binary_search(&number) {
-            Ok(place) => {
-                let _number = self.ready.remove(place);
-            }
-            Err(_) => unreachable!(),
-        }
+        let place = self.place_of(number);
+        let _number = self.ready.remove(place);
     }
 
     /// How many messages were given a number.
@@ -134,6 +130,20 @@ impl Queue {
         match self.ready.binary_search(&number) {
             Ok(place) => place + 1,
             Err(place) => place,
+        }
+    }
+
+    // The place of a ready number. Mostly it is the first.
+    fn place_of(&self, number: u32) -> usize
+        requires { Contains self.now.ready number }
+        ensures { slice_get self.now.ready result ≡ Some number }
+    {
+        if self.ready[0] == number {
+            return 0;
+        }
+        match self.ready.binary_search(&number) {
+            Ok(place) => place,
+            Err(_) => unreachable!(),
         }
     }
 }
