@@ -1,5 +1,5 @@
 -- Declined commands have their answers' causes.
-use Rattle.std.proofs.Common.{◌≡◌, ◌≤◌, Bool, true, false, not, ℕ, List, [], ◌∷◌, Option, Some, refl, subst, inl, inr, ⊎_elim}
+use Rattle.std.proofs.Common.{◌≡◌, ◌≤◌, Bool, true, false, not, ℕ, List, [], ◌∷◌, codes, Option, Some, refl, subst, inl, inr, ⊎_elim}
 use Rattle.hum_outside.specs.Outside.{Files, told}
 use Rattle.hum_command.proofs.Gathers.{rose-later}
 use Rattle.quad_memory.specs.Image.{RomImage}
@@ -7,6 +7,7 @@ use Rattle.uasm_image.specs.Spelled.{spelled}
 use Rattle.vm_machine.specs.Machine.{Machine}
 use Rattle.quad_debug.specs.Script.{commands_of}
 use Rattle.quad_debug.specs.Kept.{Debugged}
+use Rattle.quad_debug.specs.Obeys.{HoldsState}
 use Rattle.quad_debug.specs.declared.command.Command.{Command}
 use Rattle.hum_command.specs.Grants.{grant_of}
 use Rattle.hum_command.specs.LinkParts.{LinkFails}
@@ -16,7 +17,8 @@ use Rattle.hum_command.specs.Texts.{IsText, HaveTexts, FileFails}
 use Rattle.hum_command.specs.Link.{LinkTo}
 use Rattle.hum_command.specs.Call.{Call, Declines, PutsAll}
 use Rattle.hum_command.specs.TextRefusals.{TextFails, StartFails}
-use Rattle.hum_command.specs.RunAnswers.{RunsFile, FileAnswers}
+use Rattle.hum_command.specs.Chain.{chain_text}
+use Rattle.hum_command.specs.RunAnswers.{RunsFile, FileAnswers, ChainAnswers, chain_file}
 use Rattle.hum_command.specs.Code.{is_assembled, HoldsCode, IsListing, CodeFails}
 use Rattle.hum_command.specs.AsmAnswers.{AsmAnswers}
 use Rattle.hum_command.specs.DebugAnswers.{HaveBoth, Debugs, DebugFails, DebugAnswers}
@@ -42,11 +44,23 @@ module _ (file : Option (Option (List ℕ))) (name : List ℕ) (keys : Keys) (c 
   ran NoMemory r = absurd r.ends.ends
   ran answer r = r
 
--- why the text of a file that is told is refused
-pub told_fails : (faults : ℕ) (text : List ℕ) (answer : Answer) → TextFails text answer → StartFails faults faults (Some (Some text)) answer
-told_fails faults text NoMemory fails = tt
-told_fails faults text (TextRefused why) fails = (text, refl, fails)
-told_fails faults text answer fails = absurd fails
+-- `chain` runs its text as if a file held it
+module _ (n : ℕ) (keys : Keys) (c : Call) where
+  pub chain_as_file : (answer : Answer) → ChainAnswers n keys answer c → FileAnswers (chain_file n) (codes "chain") keys answer c
+  chain_as_file Unread a = absurd a
+  chain_as_file answer a = a.1
+
+  module _ (quiet : c.faults_new ≡ c.faults_old) where
+    pub declined_chain : (answer : Answer) → TextFails (chain_text n) answer → Declines answer c (codes "chain") → ChainAnswers n keys answer c
+    declined_chain NoMemory fails d = (quiet, record { line = d.line; out = d.out; last = d.last })
+    declined_chain (TextRefused why) fails d = (quiet, (record { text = chain_text n; is_text = refl; refused = fails }, d))
+    declined_chain answer fails d = absurd fails
+
+    pub ran_chain : (answer : Answer) → RunsFile (chain_file n) keys answer c → ChainAnswers n keys answer c
+    ran_chain Unread r = absurd r.ends.ends
+    ran_chain (TextRefused why) r = absurd r.ends.ends
+    ran_chain NoMemory r = absurd r.ends.ends
+    ran_chain answer r = (quiet, r)
 
 module _ (name : List ℕ) (c : Call) where
   pub declined_asm : (assembled : Bool) → is_assembled name ≡ assembled → (answer : Answer) → CodeFails assembled c.faults_old c.faults_new (told c.files name) answer
@@ -98,9 +112,9 @@ module _ (name script : List ℕ) (keys : Keys) (c : Call) where
   debugged answer d = absurd d.ends
 
   module _ (machine : Machine) (commands : List Command) (session : IsSession c.files name script keys machine commands) where
-    pub debugs_in : (began end : Debugged) → began ≡ debugs machine → c.last_new ≡ record c.last_old { machine = Some end.machine } → Silent c.err
+    pub debugs_in : HoldsState machine → (began end : Debugged) → began ≡ debugs machine → c.last_new ≡ record c.last_old { machine = Some end.machine } → Silent c.err
         → (answer : Answer) → EndsDebugging answer commands began end c.out → Debugs name script keys answer c
-    debugs_in began end is left silent answer ends =
+    debugs_in memory began end is left silent answer ends =
         let ended : EndsDebugging answer (commands_of session.lines) (debugs machine) end c.out =
         subst (λ (cs : List Command). EndsDebugging answer cs (debugs machine) end c.out) session.commands_are
         (subst (λ (d : Debugged). EndsDebugging answer commands d end c.out) is ends) in
@@ -115,6 +129,7 @@ module _ (name script : List ℕ) (keys : Keys) (c : Call) where
           formed = session.formed;
           start = machine;
           boots = boots;
+          memory = memory;
           end = end;
           from = runs_to_end image (grant_of keys) keys.lanes keys.seed answer (commands_of session.lines) (debugs machine) end c.out boots.from ended;
           left = left;

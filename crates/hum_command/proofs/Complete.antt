@@ -34,6 +34,7 @@ use Rattle.hum_command.specs.declared.refusal.TextRefusal.{TextRefusal}
 use Rattle.hum_command.specs.declared.answer.Answer.{Answer}
 use Rattle.hum_command.specs.declared.answer.Answer.TheVariants.{Done, Unread, TextRefused, Fault, Spent, Bound, NoMemory, EventFailed, Refused, ScriptRefused}
 use Rattle.hum_command.proofs.Texts.{told_there, same_texts}
+use Rattle.hum_command.proofs.Causes.{chain_as_file}
 use Rattle.hum_command.proofs.RunComplete.{run_completes, reached, file_there, told_of, unbroken, accepts}
 
 -- ---- `link`
@@ -302,7 +303,7 @@ completes_for (Some (Asm name)) answer c a = asm_completes name answer c a
 completes_for (Some (Link names)) answer c a = link_completes names answer c a
 completes_for (Some (Exec name keys)) answer c a = exec_completes name keys answer c a
 completes_for (Some (Debug name script keys)) answer c a = debug_completes name script keys answer c a
-completes_for (Some (Chain n keys)) answer c a = run_completes (chain_file n) (codes "chain") keys c answer a.1
+completes_for (Some (Chain n keys)) answer c a = run_completes (chain_file n) (codes "chain") keys c answer (chain_as_file n keys c answer a)
 
 pub completes : (request : Option Request) (answer : Answer) (status : ℕ) (c : Call) → status ≡ status_of answer → AnsweredTo request answer c → CompletesFor request status c
 completes request answer status c is a = subst (λ (n : ℕ). CompletesFor request n c) (sym is) (completes_for request answer c a)

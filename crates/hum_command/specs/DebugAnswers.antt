@@ -5,6 +5,7 @@ use Rattle.quad_memory.specs.Image.{RomImage}
 use Rattle.vm_machine.specs.Machine.{Machine}
 use Rattle.quad_debug.specs.Script.{commands_of}
 use Rattle.quad_debug.specs.Kept.{Debugged}
+use Rattle.quad_debug.specs.Obeys.{HoldsState}
 use Rattle.hum_front.specs.Accepted.{IsRefusal}
 use Rattle.hum_front.specs.declared.error.StartError.{StartError}
 use Rattle.hum_run.specs.Drive.{RunsFrom}
@@ -27,7 +28,7 @@ pub record HaveBoth (files : Option Files) (name script : List ℕ) (bytes lines
   pub commands : IsText (told files script) lines
 
 -- The file holds code, and the script commands. The machine that the code boots to with these keys obeyed them, and was left in the record; it
--- is in the state of its run.
+-- is in the state of its run. At the start, as behind each command, its memory and its sponsors are those of its state.
 pub record Debugs (name script : List ℕ) (keys : Keys) (answer : Answer) (c : Call) : Type 0 where
   pub bytes : List ℕ
   pub lines : List ℕ
@@ -37,6 +38,7 @@ pub record Debugs (name script : List ℕ) (keys : Keys) (answer : Answer) (c : 
   pub formed : script_fault lines ≡ None
   pub start : Machine
   pub boots : BootsTo image keys start
+  pub memory : HoldsState start
   pub end : Debugged
   pub from : RunsFrom image (grant_of keys) keys.lanes keys.seed end.machine
   pub left : c.last_new ≡ record c.last_old { machine = Some end.machine }

@@ -58,8 +58,9 @@ RunAnswers name keys answer c = FileAnswers (told c.files name) name keys answer
 abbrev pub chain_file : ℕ → Option (Option (List ℕ))
 chain_file n = Some (Some (chain_text n))
 
--- `chain N KEYS`, which asks the folder for nothing
+-- `chain N KEYS`, which asks the folder for nothing: so it never answers that a file could not be read
 abbrev pub ChainAnswers : ℕ → Keys → Answer → Call → Type 0
+ChainAnswers n keys Unread c = ⊥
 ChainAnswers n keys answer c = (c.faults_new ≡ c.faults_old) × FileAnswers (chain_file n) (codes "chain") keys answer c
 
 -- ---- which answers come where nothing fails

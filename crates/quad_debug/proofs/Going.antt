@@ -17,8 +17,8 @@ use Rattle.quad_debug.specs.Texts.{event_lines}
 use Rattle.quad_debug.specs.declared.wait.Wait.{Wait}
 use Rattle.quad_debug.specs.declared.wait.Wait.TheVariants.{Entries, Message as ForMessage}
 use Rattle.quad_debug.specs.Obeys.{goes_on, piece_at, entries_at, told_at, written_by, is_met, is_over, is_begun, met_at, IsAfter, whole, Took, Broke}
-use Rattle.quad_debug.specs.Parts.{stands_in, no_text, TookTurn, BrokeTurn}
-use Rattle.quad_debug.proofs.Runs.{IsRun, after-none, after-then, same-turn, before-none, before-more, ends}
+use Rattle.quad_debug.specs.Parts.{Stands, stands_in, no_text, TookTurn, BrokeTurn}
+use Rattle.quad_debug.proofs.Runs.{after-none, after-then, same-turn, before-none, before-more, ends}
 
 -- ---- fronts of what is written
 
@@ -80,11 +80,11 @@ pub record GoesFor (n : ℕ) (enough : ℕ → Bool) (text : ℕ → Bytes) (old
   pub goes : Goes enough text old now out_old out_now
   pub counted : goes.turns ≡ n
 
-pub goes-none : (enough : ℕ → Bool) (text : ℕ → Bytes) (d : Debugged) (out : Option Bytes) → IsRun d.machine → Goes enough text d d out out
-goes-none enough text d out run_is = record {
+pub goes-none : (enough : ℕ → Bool) (text : ℕ → Bytes) (d : Debugged) (out : Option Bytes) → Stands d.machine → Goes enough text d d out out
+goes-none enough text d out stands = record {
   turns = 0;
   before = before-none d.machine enough;
-  machine = after-none d.machine run_is;
+  machine = after-none d.machine stands;
   began = refl;
   out = appended-none out;
 }
@@ -245,24 +245,24 @@ module _ (enough : ℕ → Bool) (text last : ℕ → Bytes) (old now : Debugged
       }
 
 -- a command that takes no turn
-pub took-none : (enough : ℕ → Bool) (text last : ℕ → Bytes) (d : Debugged) (out_old out_new : Option Bytes) → IsRun d.machine → enough 0 ≡ true → out_new ≡ appended out_old (last 0) → Took enough text last d d out_old out_new
-took-none enough text last d out_old out_new run_is e written =
+pub took-none : (enough : ℕ → Bool) (text last : ℕ → Bytes) (d : Debugged) (out_old out_new : Option Bytes) → Stands d.machine → enough 0 ≡ true → out_new ≡ appended out_old (last 0) → Took enough text last d d out_old out_new
+took-none enough text last d out_old out_new stands e written =
     record {
       turns = 0;
       takes = record { before = before-none d.machine enough; at_end = ap (λ (b : Bool). b || not (goes_on d.machine (d.machine.turns + 0))) e };
-      machine = after-none d.machine run_is;
+      machine = after-none d.machine stands;
       began = refl;
       out = written;
     }
 
-pub broke-none : (enough : ℕ → Bool) (text last : ℕ → Bytes) (d : Debugged) (out_old out_new : Option Bytes) → IsRun d.machine → enough 0 ≡ true → AppendsFront out_old out_new (last 0) → Broke enough text last d d out_old out_new
-broke-none enough text last d out_old out_new run_is e front =
+pub broke-none : (enough : ℕ → Bool) (text last : ℕ → Bytes) (d : Debugged) (out_old out_new : Option Bytes) → Stands d.machine → enough 0 ≡ true → AppendsFront out_old out_new (last 0) → Broke enough text last d d out_old out_new
+broke-none enough text last d out_old out_new stands e front =
     record {
       turns = 0;
       takes = record { before = before-none d.machine enough; at_end = ap (λ (b : Bool). b || not (goes_on d.machine (d.machine.turns + 0))) e };
       completed = 0;
       within = omega arith;
-      machine = after-none d.machine run_is;
+      machine = after-none d.machine stands;
       began = refl;
       count = front.count;
       count_within = front.within;
@@ -342,9 +342,9 @@ module _ (enough : ℕ → Bool) (text : ℕ → Bytes) (old now : Debugged) (ou
         (t.out ∙ ap (appended out_now) was-piece) is (subst (λ (es : List Entry). AppendsFront out_next out_bad (event_lines es)) (added ∙ was-entries) front)
 
 -- turns that are counted
-pub counted-none : (enough : ℕ → Bool) (text : ℕ → Bytes) (d : Debugged) (out : Option Bytes) → IsRun d.machine → GoesFor 0 enough text d d out out
+pub counted-none : (enough : ℕ → Bool) (text : ℕ → Bytes) (d : Debugged) (out : Option Bytes) → Stands d.machine → GoesFor 0 enough text d d out out
 unfolding goes-none
-counted-none enough text d out run_is = record { goes = goes-none enough text d out run_is; counted = refl }
+counted-none enough text d out stands = record { goes = goes-none enough text d out stands; counted = refl }
 
 pub counted-more : (k : ℕ) (enough : ℕ → Bool) (old now next : Debugged) (out_old out_now out_next : Option Bytes) → (f : GoesFor k enough (piece_at old.machine) old now out_old out_now) → enough f.goes.turns ≡ false
     → TookTurn now next out_now out_next true → GoesFor (k + 1) enough (piece_at old.machine) old next out_old out_next

@@ -13,6 +13,7 @@ use Rattle.vm_turn.proofs.RunsSound.{turns-end}
 use Rattle.vm_machine.specs.Machine.{Machine, drawn_run}
 use Rattle.vm_machine.specs.View.{unwritten}
 use Rattle.quad_debug.specs.Obeys.{state_at, pick_at, turn_at, goes_on, is_empty, is_enough, TakesTurns, IsAfter}
+use Rattle.quad_debug.specs.Parts.{Stands}
 use Rattle.quad_debug.specs.Laws.{CommandsEnd}
 use Rattle.quad_debug.proofs.Rests.{go-told}
 use Rattle.quad_debug.proofs.Unwritten.{turn-unwritten}
@@ -32,10 +33,10 @@ state-next m n = ap unwritten (run-next m.image m.grant m.state.lanes m.seed n) 
 
 -- ---- machines of one run
 
-pub after-none : (m : Machine) → IsRun m → IsAfter m m 0
-after-none m run_is =
+pub after-none : (m : Machine) → Stands m → IsAfter m m 0
+after-none m stands =
     let e : m.turns + 0 ≡ m.turns = omega arith in
-    record { image = refl; grant = refl; lanes = refl; seed = refl; turns_are = sym e; state = run_is ∙ ap (state_at m) (sym e); same = λ none. refl }
+    record { image = refl; grant = refl; lanes = refl; seed = refl; turns_are = sym e; state = stands.run ∙ ap (state_at m) (sym e); memory = stands.memory; same = λ none. refl }
 
 module _ (a b : Machine) (i : ℕ) (x : IsAfter a b i) where
   pub same-state : (n : ℕ) → state_at b n ≡ state_at a n
@@ -55,6 +56,7 @@ module _ (a b : Machine) (i : ℕ) (x : IsAfter a b i) where
         seed = y.seed ∙ x.seed;
         turns_are = y.turns_are ∙ turns;
         state = y.state ∙ same-state (b.turns + j) ∙ ap (state_at a) turns;
+        memory = y.memory;
         same = λ none. y.same (omega (arith, none)) ∙ x.same (omega (arith, none));
       }
 

@@ -14,7 +14,7 @@ use Rattle.vm_machine.specs.Turns.{Takes, Quiet}
 use Rattle.vm_machine.specs.View.{unwritten}
 use Rattle.uasm_read.specs.Texts.{Bytes}
 use Rattle.quad_debug.specs.Kept.{Debugged}
-use Rattle.quad_debug.specs.Obeys.{state_at, pick_at, turn_at, goes_on, piece_at, entries_at, IsAfter}
+use Rattle.quad_debug.specs.Obeys.{state_at, pick_at, turn_at, goes_on, piece_at, entries_at, HoldsState, IsAfter}
 use Rattle.quad_debug.specs.Parts.{if_more, one_if, TookTurn, BrokeTurn}
 use Rattle.quad_debug.proofs.Journals.{turn-extends}
 use Rattle.quad_debug.proofs.Rests.{turn-still}
@@ -47,23 +47,25 @@ module _ (old new : Machine) (run_is : IsRun old) where
     counted : new.turns ≡ old.turns + (if goes_on old old.turns then 1 else 0)
     counted = turns ∙ ap (λ (b : Bool). old.turns + (if b then 1 else 0)) told
 
-    pub after-turn : (b : Bool) → goes_on old old.turns ≡ b → IsAfter old new (one_if b)
-    after-turn true h = record {
+    pub after-turn : HoldsState new → (b : Bool) → goes_on old old.turns ≡ b → IsAfter old new (one_if b)
+    after-turn holds true h = record {
       image = image;
       grant = grant;
       lanes = lanes;
       seed = seed;
       turns_are = counted ∙ ap (λ (x : Bool). old.turns + (if x then 1 else 0)) h;
       state = takes.0 ∙ ap (λ (x : State × Answer). unwritten x.0) same ∙ sym (state-next old old.turns) ∙ (let e : suc old.turns ≡ old.turns + 1 = omega arith in ap (state_at old) e);
+      memory = holds;
       same = λ none. absurd (omega (arith, none));
     }
-    after-turn false h = record {
+    after-turn holds false h = record {
       image = image;
       grant = grant;
       lanes = lanes;
       seed = seed;
       turns_are = counted ∙ ap (λ (x : Bool). old.turns + (if x then 1 else 0)) h;
       state = takes.0 ∙ ap unwritten (turn-still old.state pick (goes ∙ h) ∙ run_is) ∙ (let e : old.turns ≡ old.turns + 0 = omega arith in ap (state_at old) e);
+      memory = holds;
       same = λ none. unchanged (ap (λ (x : Bool). if x then 1 else 0) (told ∙ h));
     }
 
@@ -86,14 +88,14 @@ module _ (old new : Machine) (run_is : IsRun old) where
         by false e = grind (arith, nat_tests, e)
 
 -- a debugger's machine took a turn, or there was none
-pub took-turn : (old new : Debugged) (a : Answer) (out_old out_new : Option Bytes) → IsRun old.machine → new.machine.image ≡ old.machine.image → new.machine.grant ≡ old.machine.grant → new.machine.state.lanes ≡ old.machine.state.lanes → new.machine.seed ≡ old.machine.seed
+pub took-turn : (old new : Debugged) (a : Answer) (out_old out_new : Option Bytes) → IsRun old.machine → HoldsState new.machine → new.machine.image ≡ old.machine.image → new.machine.grant ≡ old.machine.grant → new.machine.state.lanes ≡ old.machine.state.lanes → new.machine.seed ≡ old.machine.seed
     → new.machine.turns ≡ old.machine.turns + turns_by old.machine.state.out_of (Ok a) → Takes (turn old.machine.state (pick_at old.machine old.machine.turns)) (Ok a) old.machine.state new.machine.state out_old out_new → (turns_by old.machine.state.out_of (Ok a) ≡ 0 → new.machine ≡ old.machine) → new.began ≡ old.began
     → (more : Bool) → more ≡ nat_lt old.machine.turns new.machine.turns → TookTurn old new out_old out_new more
-took-turn old new a out_old out_new run_is image grant lanes seed turns takes unchanged began more is =
+took-turn old new a out_old out_new run_is holds image grant lanes seed turns takes unchanged began more is =
     let was : goes_on old.machine old.machine.turns ≡ more = sym (is ∙ told-turn old.machine new.machine run_is a out_old out_new image grant lanes seed turns takes unchanged) in
     record {
       was = was;
-      machine = after-turn old.machine new.machine run_is a out_old out_new image grant lanes seed turns takes unchanged more was;
+      machine = after-turn old.machine new.machine run_is a out_old out_new image grant lanes seed turns takes unchanged holds more was;
       began = began;
       journal = journal-turn old.machine new.machine run_is a out_old out_new image grant lanes seed turns takes unchanged more was;
       out = out-turn old.machine new.machine run_is a out_old out_new image grant lanes seed turns takes unchanged more was;

@@ -3,11 +3,13 @@ use Rattle.std.specs.Prelude.{◌≡◌, ℕ, zero, suc, ◌+◌, ◌<◌, ◌�
 use Rattle.std.specs.List.{flat_map, list_any}
 use Rattle.cap_words.specs.declared.word.Quad.{Quad}
 use Rattle.cap_words.specs.Store.{rom_cell}
+use Rattle.cap_words.specs.Seen.{seen}
 use Rattle.hum_outside.specs.Outside.{appended}
 use Rattle.quad_memory.specs.Memory.{Memory}
 use Rattle.quad_memory.specs.Cells.{ram_cell}
 use Rattle.instr_table.specs.declared.charge.Quota.{Quota}
 use Rattle.instr_table.specs.Lane.{Lane}
+use Rattle.vm_step.specs.Step.{sheet_in}
 use Rattle.vm_turn.specs.declared.journal.Entry.{Entry}
 use Rattle.vm_turn.specs.declared.journal.Turn.{Turn as Answer}
 use Rattle.vm_turn.specs.State.{State, Message}
@@ -172,7 +174,12 @@ last_text d (Back count) k = event_lines (keep_last count (kept d))
 
 -- ---- what a call leaves
 
--- the machine after so many turns of its run; after none it is as it was, its memory too
+-- the memory and the sponsors that are seen of a machine are those of its state
+pub record HoldsState (m : Machine) : Type 0 where
+  pub store : seen m.quads.store ≡ m.state.store
+  pub sheet : sheet_in m.quads m.sheet ≡ m.state.sheet
+
+-- the machine after so many turns of its run; after none it is as it was
 pub record IsAfter (old new : Machine) (turns : ℕ) : Type 0 where
   pub image : new.image ≡ old.image
   pub grant : new.grant ≡ old.grant
@@ -180,6 +187,7 @@ pub record IsAfter (old new : Machine) (turns : ℕ) : Type 0 where
   pub seed : new.seed ≡ old.seed
   pub turns_are : new.turns ≡ old.turns + turns
   pub state : new.state ≡ state_at old (old.turns + turns)
+  pub memory : HoldsState new
   pub same : turns ≡ 0 → new ≡ old
 
 -- turns were taken, each of which writes this, and then this was written

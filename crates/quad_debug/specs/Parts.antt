@@ -3,10 +3,16 @@ use Rattle.std.specs.Prelude.{◌≡◌, ℕ, nat_le, Bool, true, false, List, [
 use Rattle.hum_outside.specs.Outside.{AppendsFront, appended}
 use Rattle.uasm_read.specs.Texts.{Bytes}
 use Rattle.vm_turn.specs.declared.journal.Entry.{Entry}
+use Rattle.vm_machine.specs.Machine.{Machine}
 use Rattle.quad_debug.specs.declared.wait.Wait.{Wait}
 use Rattle.quad_debug.specs.declared.wait.Wait.TheVariants.{Entries, Message as ForMessage}
 use Rattle.quad_debug.specs.Kept.{Debugged}
-use Rattle.quad_debug.specs.Obeys.{goes_on, has_ended, piece_at, told_at, entries_at, met_at, ending_at, IsAfter, Took, Broke}
+use Rattle.quad_debug.specs.Obeys.{state_at, goes_on, has_ended, piece_at, told_at, entries_at, met_at, ending_at, HoldsState, IsAfter, Took, Broke}
+
+-- the machine's state is that of its run, and what is seen of it is that state
+pub record Stands (m : Machine) : Type 0 where
+  pub run : m.state ≡ state_at m m.turns
+  pub memory : HoldsState m
 
 -- nothing
 abbrev pub no_text : ℕ → Bytes

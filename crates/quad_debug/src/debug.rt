@@ -65,6 +65,16 @@ fn put_last<K: Sink>(
     put_events(out, later)
 }
 
+// How many turns a machine completed. What it is seen to hold is its state, which is that of its run.
+fn turns_of(machine: &Machine) -> u64
+    ensures value { result ≡ machine.now.turns }
+    ensures stands { parts.Stands machine.now }
+{
+    let _quads = machine.quads();
+    let _sheet = machine.sheet();
+    machine.turns()
+}
+
 // Whether it is told that a machine is at rest: where no turn was taken, or what was waited for did not come.
 fn is_rest_told(before: u64, now: u64, met: bool) -> bool
     ensures { result ≡ (nat_eq now before || not met) }
@@ -76,8 +86,10 @@ impl Debug {
     /// A debugger of that machine, which goes on from where it is. No entry is kept yet.
     pub fn start(alloc: Global, machine: Machine) -> Result<Debug, NoMemory>
         ensures machine { IfOk result (λ d. d.machine ≡ machine) }
+        ensures memory { spec.HoldsState machine }
         ensures began { IfOk result (λ d. d.began ≡ length machine.state.journal) }
     {
+        let _turns = turns_of(&machine);
         let began = machine.journal().len();
         let entries = HeapCircularBuffer::with_capacity(alloc, MOST_KEPT)?;
         Ok(Debug {
@@ -137,7 +149,7 @@ impl Debug {
         ensures breaks { OnErr result (spec.BreaksOff (Show place) self.now self.now (K.written out.old) (K.written out.new)) }
         ensures cause { HasCause (K.faults out.old) (K.faults out.new) result }
     {
-        let _turns = self.machine().turns();
+        let _turns = turns_of(self.machine());
         Ok(put_cell(out, place, self.show(place))?)
     }
 
@@ -147,7 +159,7 @@ impl Debug {
         ensures breaks { OnErr result (spec.BreaksOff Queue self.now self.now (K.written out.old) (K.written out.new)) }
         ensures cause { HasCause (K.faults out.old) (K.faults out.new) result }
     {
-        let _turns = self.machine().turns();
+        let _turns = turns_of(self.machine());
         Ok(put_queue(out, self.machine().queue())?)
     }
 
@@ -157,7 +169,7 @@ impl Debug {
         ensures breaks { OnErr result (spec.BreaksOff Sheet self.now self.now (K.written out.old) (K.written out.new)) }
         ensures cause { HasCause (K.faults out.old) (K.faults out.new) result }
     {
-        let _turns = self.machine().turns();
+        let _turns = turns_of(self.machine());
         Ok(put_sheet(out, self.machine())?)
     }
 
@@ -167,7 +179,7 @@ impl Debug {
         ensures breaks { OnErr result (spec.BreaksOff (Back count) self.now self.now (K.written out.old) (K.written out.new)) }
         ensures cause { HasCause (K.faults out.old) (K.faults out.new) result }
     {
-        let _turns = self.machine.turns();
+        let _turns = turns_of(&self.machine);
         Ok(put_last(out, &self.entries, count)?)
     }
 
@@ -177,12 +189,13 @@ impl Debug {
         ensures breaks { OnErr result (parts.BrokeTurn self.old self.new (K.written out.old) (K.written out.new)) }
         ensures cause { HasCause (K.faults out.old) (K.faults out.new) result }
     {
-        let turns = self.machine.turns();
+        let turns = turns_of(&self.machine);
         let ended = self.machine.journal().len();
         let _answer = self.machine.turn(out)?;
+        let now = turns_of(&self.machine);
         let added = entries_from(self.machine.journal(), ended);
         self.entries.extend_from_slice(added);
-        Ok(self.machine.turns() > turns)
+        Ok(now > turns)
     }
 
     // Takes so many turns, or fewer where there are no more.
@@ -191,7 +204,7 @@ impl Debug {
         ensures breaks { OnErr result (parts.BreaksSteps count self.old self.new (K.written out.old) (K.written out.new)) }
         ensures cause { HasCause (K.faults out.old) (K.faults out.new) result }
     {
-        let _turns = self.machine().turns();
+        let _turns = turns_of(self.machine());
         'turns: for _taken in 0..count {
             if !self.turn(out)? {
                 return Ok(());
@@ -208,7 +221,7 @@ impl Debug {
         ensures breaks { OnErr result (parts.BreaksWalk wait self.old self.new (K.written out.old) (K.written out.new)) }
         ensures cause { HasCause (K.faults out.old) (K.faults out.new) result }
     {
-        let _turns = self.machine().turns();
+        let _turns = turns_of(self.machine());
         let mut over = is_over(wait, self.machine().journal(), 0);
         'turns: loop {
             if over || is_begun(wait, self.machine()) {

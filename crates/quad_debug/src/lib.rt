@@ -15,7 +15,7 @@
 //!
 //! Numbers have 1 to 9 digits. An entry is written as `* event M committed`, `* event M failed: TEXT` or `* event M spent KIND`, by `event`
 //! and `break` directly behind what the turn that adds it writes. Where the root ran out, before or in their turns, both end with `* spent`
-//! alone. Where the machine is at rest they end with `* rest` if it was so before, or if what they wait for did not come.
+//! and no other line. Where the machine is at rest they end with `* rest` if it was so before, or if what they wait for did not come.
 #![tactic(auto)]
 
 mod command;

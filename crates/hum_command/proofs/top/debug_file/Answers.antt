@@ -18,7 +18,7 @@ returns-in-Ok-obeyed-clause-answered g c =
     let obeyed = c.obey_all-obeyed in
     debugs_in a.name.now a.script.now a.keys
     (call g.F.Folder.files g.F.Folder.faults w g.K.Sink.faults a.files.now c.read_session.new.files a.out.now obeyed.new.out a.err.now a.err.now a.last.now c.leave_machine.new.self)
-    machine c.in-Ok.session.commands.items session began obeyed.new.debug
+    machine c.in-Ok.session.commands.items session c.in-Ok-start.ensures.memory began obeyed.new.debug
     (began_fresh began machine c.in-Ok-start.ensures.machine c.in-Ok-start.ensures.began session.boots.2.fresh)
     (subst (λ (m : Machine). c.leave_machine.new.self ≡ record a.last.now { machine = Some m }) c.end.ensures c.leave_machine.ensures)
     (refl {a = w a.err.now}) Done
@@ -34,7 +34,7 @@ returns-clause-answered g c =
     let obeyed = c.obey_all-obeyed in
     debugs_in a.name.now a.script.now a.keys
     (call g.F.Folder.files g.F.Folder.faults w g.K.Sink.faults a.files.now c.read_session.new.files a.out.now obeyed.new.out a.err.now a.err.now a.last.now c.leave_machine.new.self)
-    machine c.in-Ok.session.commands.items session began obeyed.new.debug
+    machine c.in-Ok.session.commands.items session c.in-Ok-start.ensures.memory began obeyed.new.debug
     (began_fresh began machine c.in-Ok-start.ensures.machine c.in-Ok-start.ensures.began session.boots.2.fresh)
     (subst (λ (m : Machine). c.leave_machine.new.self ≡ record a.last.now { machine = Some m }) c.end.ensures c.leave_machine.ensures)
     (refl {a = w a.err.now}) Fault

@@ -2,19 +2,16 @@ use Rattle.std.proofs.Common.{◌+◌, ◌∙◌, ap, subst, arith, nat_le, true
 use Rattle.std.specs.Prelude.{◌||◌, not}
 use Rattle.hum_outside.proofs.Fronts.{on_err}
 use Rattle.quad_debug.specs.Obeys.{state_at, piece_at, goes_on}
-use Rattle.quad_debug.specs.Parts.{no_text, TookTurn}
-use Rattle.quad_debug.proofs.Runs.{IsRun}
+use Rattle.quad_debug.specs.Parts.{Stands, no_text, TookTurn}
 use Rattle.quad_debug.proofs.Going.{counted-none, counted-more, goes-ends, took-all, device-breaks, silent-holds}
 use Rattle.quad_debug.proofs.Counting.{not-enough, is-enough}
 use Rattle.quad_debug.proofs.debug.Debug.take.Goals as goal
 
 pub turns-init : goal.turns-init
 turns-init g c =
-    let n = c.machine.result.now in
-    let here : IsRun n = c.turns-turns.ensures.run ∙ ap (state_at n) c.turns-turns.ensures.value in
-    let run : IsRun c.args.self.now.machine = subst IsRun c.machine.ensures here in
+    let stands : Stands c.args.self.now.machine = subst Stands c.machine.ensures c.turns_of-turns.ensures.stands in
     record {
-      goes = counted-none (nat_le c.args.count) (piece_at c.args.self.now.machine) c.args.self.now (g.K.Sink.written c.args.out.now) run;
+      goes = counted-none (nat_le c.args.count) (piece_at c.args.self.now.machine) c.args.self.now (g.K.Sink.written c.args.out.now) stands;
       later = omega arith;
     }
 

@@ -4,10 +4,8 @@ use Rattle.hum_outside.proofs.Fronts.{on_err}
 use Rattle.vm_turn.specs.declared.journal.Entry.{Entry}
 use Rattle.vm_machine.specs.Machine.{Machine}
 use Rattle.quad_debug.specs.Kept.{Debugged, Keeps}
-use Rattle.quad_debug.specs.Obeys.{state_at}
 use Rattle.quad_debug.specs.Parts.{TookTurn, BrokeTurn}
 use Rattle.quad_debug.proofs.Keeping.{keeps-more}
-use Rattle.quad_debug.proofs.Runs.{IsRun}
 use Rattle.quad_debug.proofs.Turned.{took-turn, broke-turn, extended, grows}
 use Rattle.quad_debug.proofs.debug.Debug.turn.Goals as goal
 
@@ -17,7 +15,7 @@ returns-in_err-_answer-clause-breaks g c =
     let m = inside.machine in
     let old : Debugged = record { machine = m; began = inside.began } in
     let new : Debugged = record { machine = c.turn.new.self; began = inside.began } in
-    let run : IsRun m = c.turns-turns.ensures.run ∙ ap (state_at m) c.turns-turns.ensures.value in
+    let run = c.turns_of-turns.ensures.stands.run in
     let e = c.in_err-_answer.ensures in
     let w = g.K.Sink.written in
     let same : new ≡ old = ap (λ (x : Machine). record { machine = x; began = inside.began }) (e.unchanged refl) in
@@ -30,10 +28,10 @@ entries_from-added-requires g c =
     let m = inside.machine in
     let old : Debugged = record { machine = m; began = inside.began } in
     let new : Debugged = record { machine = c.turn.new.self; began = inside.began } in
-    let run : IsRun m = c.turns-turns.ensures.run ∙ ap (state_at m) c.turns-turns.ensures.value in
+    let run = c.turns_of-turns.ensures.stands.run in
     let e = c.in_ok-_answer.ensures in
     let w = g.K.Sink.written in
-    let took = took-turn old new c.in_ok-_answer._answer (w c.args.out.now) (w c.turn.new.out) run e.image e.grant e.lanes e.seed e.turns e.turn e.unchanged refl (nat_lt m.turns c.turn.new.self.turns) refl in
+    let took = took-turn old new c.in_ok-_answer._answer (w c.args.out.now) (w c.turn.new.out) run c.turns_of-now.ensures.stands.memory e.image e.grant e.lanes e.seed e.turns e.turn e.unchanged refl (nat_lt m.turns c.turn.new.self.turns) refl in
     let more = grows old new (w c.args.out.now) (w c.turn.new.out) (nat_lt m.turns c.turn.new.self.turns) took in
     let before = ap length c.journal-ended.ensures.value in
     let now = ap length c.journal.ensures.value in
@@ -45,10 +43,10 @@ invariant_of-self-2 g c =
     let m = inside.machine in
     let old : Debugged = record { machine = m; began = inside.began } in
     let new : Debugged = record { machine = c.turn.new.self; began = inside.began } in
-    let run : IsRun m = c.turns-turns.ensures.run ∙ ap (state_at m) c.turns-turns.ensures.value in
+    let run = c.turns_of-turns.ensures.stands.run in
     let e = c.in_ok-_answer.ensures in
     let w = g.K.Sink.written in
-    let took = took-turn old new c.in_ok-_answer._answer (w c.args.out.now) (w c.turn.new.out) run e.image e.grant e.lanes e.seed e.turns e.turn e.unchanged refl (nat_lt m.turns c.turn.new.self.turns) refl in
+    let took = took-turn old new c.in_ok-_answer._answer (w c.args.out.now) (w c.turn.new.out) run c.turns_of-now.ensures.stands.memory e.image e.grant e.lanes e.seed e.turns e.turn e.unchanged refl (nat_lt m.turns c.turn.new.self.turns) refl in
     let added = c.entries_from-added.result.now in
     let cut : added ≡ drop (length m.state.journal) c.turn.new.self.state.journal =
     c.entries_from-added.ensures ∙ ap (λ (j : List Entry). drop (length j) c.journal.result.now) c.journal-ended.ensures.value ∙ ap (drop (length m.state.journal)) c.journal.ensures.value in
@@ -62,10 +60,10 @@ returns-clause-turns g c =
     let m = inside.machine in
     let old : Debugged = record { machine = m; began = inside.began } in
     let new : Debugged = record { machine = c.turn.new.self; began = inside.began } in
-    let run : IsRun m = c.turns-turns.ensures.run ∙ ap (state_at m) c.turns-turns.ensures.value in
+    let run = c.turns_of-turns.ensures.stands.run in
     let e = c.in_ok-_answer.ensures in
     let w = g.K.Sink.written in
-    let more = nat_lt c.turns-turns.result c.turns.result in
-    let told : more ≡ nat_lt m.turns c.turn.new.self.turns = ap (λ (n : ℕ). nat_lt n c.turns.result) c.turns-turns.ensures.value ∙ ap (nat_lt m.turns) c.turns.ensures.value in
-    let took = took-turn old new c.in_ok-_answer._answer (w c.args.out.now) (w c.turn.new.out) run e.image e.grant e.lanes e.seed e.turns e.turn e.unchanged refl more told in
+    let more = nat_lt c.turns_of-turns.result c.turns_of-now.result in
+    let told : more ≡ nat_lt m.turns c.turn.new.self.turns = ap (λ (n : ℕ). nat_lt n c.turns_of-now.result) c.turns_of-turns.ensures.value ∙ ap (nat_lt m.turns) c.turns_of-now.ensures.value in
+    let took = took-turn old new c.in_ok-_answer._answer (w c.args.out.now) (w c.turn.new.out) run c.turns_of-now.ensures.stands.memory e.image e.grant e.lanes e.seed e.turns e.turn e.unchanged refl more told in
     subst (λ (d : Debugged). TookTurn d new (w c.args.out.now) (w c.turn.new.out) more) c.self.view_is took

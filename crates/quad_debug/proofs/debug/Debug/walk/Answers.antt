@@ -3,8 +3,7 @@ use Rattle.hum_outside.proofs.Fronts.{on_err}
 use Rattle.vm_turn.specs.declared.journal.Entry.{Entry}
 use Rattle.vm_machine.specs.Machine.{Machine}
 use Rattle.quad_debug.specs.Obeys.{state_at, told_at, met_at, entries_at, is_over, is_begun}
-use Rattle.quad_debug.specs.Parts.{stands_in, no_text, TookTurn}
-use Rattle.quad_debug.proofs.Runs.{IsRun}
+use Rattle.quad_debug.specs.Parts.{Stands, stands_in, no_text, TookTurn}
 use Rattle.quad_debug.proofs.Turned.{grows, added-entries, front-journal}
 use Rattle.quad_debug.proofs.Going.{goes-none, goes-told, took-all, device-breaks, line-breaks, told-holds, met-now, not-met, stands-none, over-stands, turns-fewer}
 use Rattle.quad_debug.proofs.debug.Debug.walk.Goals as goal
@@ -14,11 +13,9 @@ is_over-over-requires g c = record { within = omega arith; unseen = stands-none 
 
 pub turns-init : goal.turns-init
 turns-init g c =
-    let n = c.machine.result.now in
-    let here : IsRun n = c.turns-turns.ensures.run ∙ ap (state_at n) c.turns-turns.ensures.value in
-    let run : IsRun c.args.self.now.machine = subst IsRun c.machine.ensures here in
+    let stands : Stands c.args.self.now.machine = subst Stands c.machine.ensures c.turns_of-turns.ensures.stands in
     record {
-      goes = goes-none (met_at c.args.self.now.machine c.args.wait) (told_at c.args.self.now.machine) c.args.self.now (g.K.Sink.written c.args.out.now) run;
+      goes = goes-none (met_at c.args.self.now.machine c.args.wait) (told_at c.args.self.now.machine) c.args.self.now (g.K.Sink.written c.args.out.now) stands;
       over = c.is_over-over.ensures ∙ ap (is_over c.args.wait) (c.journal.ensures.value ∙ ap (λ (m : Machine). m.state.journal) c.machine-2.ensures);
       later = omega arith;
     }
