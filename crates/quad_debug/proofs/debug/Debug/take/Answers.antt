@@ -1,7 +1,7 @@
-use Rattle.std.proofs.Common.{◌+◌, ◌∙◌, ap, subst, arith, nat_le, true, false, Bool}
+use Rattle.std.proofs.Common.{◌+◌, ap, subst, arith, nat_le, true, false, Bool}
 use Rattle.std.specs.Prelude.{◌||◌, not}
 use Rattle.hum_outside.proofs.Fronts.{on_err}
-use Rattle.quad_debug.specs.Obeys.{state_at, piece_at, goes_on}
+use Rattle.quad_debug.specs.Obeys.{piece_at, goes_on}
 use Rattle.quad_debug.specs.Parts.{Stands, no_text, TookTurn}
 use Rattle.quad_debug.proofs.Going.{counted-none, counted-more, goes-ends, took-all, device-breaks, silent-holds}
 use Rattle.quad_debug.proofs.Counting.{not-enough, is-enough}

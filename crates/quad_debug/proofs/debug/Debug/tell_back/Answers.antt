@@ -4,7 +4,7 @@ use Rattle.hum_outside.specs.Outside.{AppendsFront, appended}
 use Rattle.hum_outside.proofs.Fronts.{on_err}
 use Rattle.quad_debug.specs.Kept.{Debugged, kept}
 use Rattle.quad_debug.specs.Texts.{event_lines}
-use Rattle.quad_debug.specs.Obeys.{state_at, is_enough, turn_text, last_text}
+use Rattle.quad_debug.specs.Obeys.{is_enough, turn_text, last_text}
 use Rattle.quad_debug.specs.declared.command.Command.TheVariants.{Back}
 use Rattle.quad_debug.specs.Parts.{Stands}
 use Rattle.quad_debug.proofs.Going.{took-none, broke-none}

@@ -1,7 +1,7 @@
 use Rattle.std.proofs.Common.{◌≡◌, ◌∙◌, ap, subst, refl}
 use Rattle.hum_outside.specs.Outside.{AppendsFront, appended}
 use Rattle.hum_outside.proofs.Fronts.{on_err}
-use Rattle.quad_debug.specs.Obeys.{state_at, is_enough, turn_text, last_text}
+use Rattle.quad_debug.specs.Obeys.{is_enough, turn_text, last_text}
 use Rattle.quad_debug.specs.declared.command.Command.TheVariants.{Show}
 use Rattle.quad_debug.specs.Parts.{Stands}
 use Rattle.quad_debug.proofs.Going.{took-none, broke-none}

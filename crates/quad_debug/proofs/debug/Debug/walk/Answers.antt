@@ -2,7 +2,7 @@ use Rattle.std.proofs.Common.{◌≡◌, ◌≤◌, ◌∙◌, ◌+◌, ◌*◌,
 use Rattle.hum_outside.proofs.Fronts.{on_err}
 use Rattle.vm_turn.specs.declared.journal.Entry.{Entry}
 use Rattle.vm_machine.specs.Machine.{Machine}
-use Rattle.quad_debug.specs.Obeys.{state_at, told_at, met_at, entries_at, is_over, is_begun}
+use Rattle.quad_debug.specs.Obeys.{told_at, met_at, entries_at, is_over, is_begun}
 use Rattle.quad_debug.specs.Parts.{Stands, stands_in, no_text, TookTurn}
 use Rattle.quad_debug.proofs.Turned.{grows, added-entries, front-journal}
 use Rattle.quad_debug.proofs.Going.{goes-none, goes-told, took-all, device-breaks, line-breaks, told-holds, met-now, not-met, stands-none, over-stands, turns-fewer}
@@ -53,7 +53,7 @@ turns-smaller g c =
     let before : c.journal-ended.result.now ≡ now.machine.state.journal = c.journal-ended.ensures.value ∙ ap (λ (m : Machine). m.state.journal) c.machine-in-turns.ensures in
     let after : c.journal-journal.result.now ≡ c.turn.new.self.machine.state.journal = c.journal-journal.ensures.value ∙ ap (λ (m : Machine). m.state.journal) c.machine-in-turns-3.ensures in
     let top : c.turn.new.self.machine.turns ≤ c.turn.new.self.machine.grant.cycles + 2 * (c.turn.new.self.machine.grant.events + 1) =
-    subst (λ (m : Machine). m.turns ≤ m.grant.cycles + 2 * (m.grant.events + 1)) c.machine-in-turns-2.ensures (omega (arith, c.turns-turns-in-turns.ensures.bound, c.turns-turns-in-turns.ensures.value)) in
+    subst (λ (m : Machine). m.turns ≤ m.grant.cycles + 2 * (m.grant.events + 1)) c.machine-in-turns-2.ensures (omega (arith, c.turns-turns.ensures.bound, c.turns-turns.ensures.value)) in
     turns-fewer now.machine c.turn.new.self.machine took.machine top
 
 pub entries_from-requires : goal.entries_from-requires
