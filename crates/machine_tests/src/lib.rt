@@ -7,3 +7,7 @@
 mod debugger;
 #[cfg(test)]
 mod machine;
+#[cfg(test)]
+mod modules;
+#[cfg(test)]
+mod rows;
