@@ -9,6 +9,12 @@ const IMAGE: [u8; 44] = [
     10, 0, 0, 0, 17, 0, 0, 0, 1, 0, 0, 0, 0, 0, 0, 0,
 ];
 
+// The image of one instruction, `end commit`.
+const END_COMMIT: [u8; 28] = [
+    0x55, 0x46, 0x51, 0x31, 1, 0, 0, 0, 16, 0, 0, 0, //
+    9, 0, 0, 0, 0x15, 0, 0, 0x80, 1, 0, 0, 0x80, 0, 0, 0, 0,
+];
+
 const fn refused(at: u32, cause: ImageCause) -> Option<DecodeError> {
     Some(DecodeError::Refused(ImageRefused { at, cause }))
 }
@@ -16,11 +22,7 @@ const fn refused(at: u32, cause: ImageCause) -> Option<DecodeError> {
 #[test]
 fn the_image_of_one_cell_has_28_bytes(rt: HostRuntime) -> Result<(), Fail> {
     let alloc = rt.alloc();
-    let bytes = [
-        0x55, 0x46, 0x51, 0x31, 1, 0, 0, 0, 16, 0, 0, 0, //
-        9, 0, 0, 0, 0x15, 0, 0, 0x80, 1, 0, 0, 0x80, 0, 0, 0, 0,
-    ];
-    let image = decode(alloc, &bytes).ok().ok_or("an image")?;
+    let image = decode(alloc, &END_COMMIT).ok().ok_or("an image")?;
     assert_eq!(rt; image.boot().bits(), 16);
     assert_eq!(rt; image.cells().len(), 1);
     for cell in image.cells() {
@@ -29,8 +31,20 @@ fn the_image_of_one_cell_has_28_bytes(rt: HostRuntime) -> Result<(), Fail> {
         assert_eq!(rt; cell.y.number(), Some(1));
         assert_eq!(rt; cell.z.bits(), 0);
     }
-    assert_eq!(rt; encode(alloc, &image)?.as_slice(), bytes.as_slice());
+    assert_eq!(rt; encode(alloc, &image)?.as_slice(), END_COMMIT.as_slice());
     Ok(())
+}
+
+#[test]
+fn each_front_of_the_image_of_one_cell_is_truncated(rt: HostRuntime) {
+    let alloc = rt.alloc();
+    for len in 0..28 {
+        let front = &END_COMMIT[..len];
+        assert_eq!(rt;
+            decode(alloc, front).err(),
+            refused(len as u32, ImageCause::Truncated)
+        );
+    }
 }
 
 #[test]

@@ -86,7 +86,7 @@ fn linked_files(rt: HostRuntime) -> Result<(), Fail> {
         assert_eq!(rt; got.status, status, "{err}");
         assert_eq!(rt; got.out.bytes().len(), written, "{err}");
         assert_eq!(rt; got.err.bytes(), err.as_bytes());
-        assert!(rt; got.last.run().is_none() && got.last.machine().is_none());
+        assert!(rt; got.left.is_nothing());
     }
     Ok(())
 }
@@ -111,14 +111,18 @@ fn faults_while_an_image_is_written(rt: HostRuntime) -> Result<(), Fail> {
     Ok(())
 }
 
+// The status of a call with these words.
+fn status_of(alloc: Global, words: &[&str]) -> Result<u8, AllocError> {
+    let got = call_over(alloc, words, modules(alloc)?, &[&[], &[], &[]])?;
+    Ok(got.status)
+}
+
 #[test]
 fn at_most_64_files_are_linked(rt: HostRuntime) -> Result<(), Fail> {
     let alloc = rt.alloc();
     let mut words = ["closed.asm"; 66];
     words[0] = "link";
-    let got = call_over(alloc, &words, modules(alloc)?, &[&[], &[], &[]])?;
-    assert_eq!(rt; got.status, 1);
-    let got = call_over(alloc, &words[..65], modules(alloc)?, &[&[], &[], &[]])?;
-    assert_eq!(rt; got.status, 10);
+    assert_eq!(rt; status_of(alloc, &words)?, 1);
+    assert_eq!(rt; status_of(alloc, &words[..65])?, 10);
     Ok(())
 }

@@ -42,7 +42,7 @@ fn listings_of_files(rt: HostRuntime) -> Result<(), Fail> {
         assert_eq!(rt; got.err.bytes(), err.as_bytes());
         assert_eq!(rt; got.out.bytes(), out.as_bytes());
         assert_eq!(rt; got.status, status);
-        assert!(rt; got.last.run().is_none() && got.last.machine().is_none());
+        assert!(rt; got.left.is_nothing());
     }
     Ok(())
 }

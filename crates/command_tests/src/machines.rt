@@ -1,6 +1,5 @@
 // Images and modules that run, and those that are refused.
-use crate::calls::{IMAGE, exec_over, owned};
-use hum_command::{Record, humus_main};
+use crate::calls::{IMAGE, call_with, exec_over};
 use hum_outside::{EndlessFolder, MemSink};
 use std::alloc::{AllocError, Global};
 use std::test::Fail;
@@ -140,13 +139,9 @@ fn modules_that_run(rt: HostRuntime) -> Result<(), Fail> {
         assert_eq!(rt; got.err.bytes(), err.as_bytes(), "{text}");
         assert_eq!(rt; got.out.bytes(), out.as_bytes(), "{text}");
         assert_eq!(rt; got.status, status, "{text}");
-        let machine = got.last.machine().ok_or("a machine")?;
-        let root = machine.sheet().row(machine.quads(), 0).ok_or("the root")?;
-        let [memory, events, cycles] = spent;
-        assert_eq!(rt; root.spent.memory, memory);
-        assert_eq!(rt; root.spent.events, events);
-        assert_eq!(rt; root.spent.cycles, cycles);
-        assert!(rt; status != 5 || machine.actor_at(3).is_none());
+        let machine = got.left.machine().ok_or("a machine")?;
+        assert_eq!(rt; machine.spent, Some(spent), "{text}");
+        assert!(rt; status != 5 || !machine.created);
     }
     Ok(())
 }
@@ -155,7 +150,7 @@ fn modules_that_run(rt: HostRuntime) -> Result<(), Fail> {
 // several answers would be too large to be proved.
 fn exec_says(alloc: Global, bytes: &[u8], line: &[u8], status: u8) -> Result<bool, AllocError> {
     let got = exec_over(alloc, &[], bytes, &[&[], &[], &[]])?;
-    Ok(got.err.bytes() == line && got.status == status)
+    Ok(got.says(b"", line, status))
 }
 
 #[test]
@@ -187,16 +182,12 @@ fn an_image_whole_and_continued(rt: HostRuntime) -> Result<(), Fail> {
 #[test]
 fn a_file_that_never_ends(rt: HostRuntime) -> Result<(), Fail> {
     let alloc = rt.alloc();
-    let words = owned(alloc, &["exec", "i.img"])?;
-    let mut out = MemSink::with_room(alloc, 0, 1, Vec::new(alloc))?;
-    let mut err = MemSink::with_room(alloc, 100, 1, Vec::new(alloc))?;
-    let mut last = Record::empty();
+    let out = MemSink::with_room(alloc, 0, 1, Vec::new(alloc))?;
+    let err = MemSink::with_room(alloc, 100, 1, Vec::new(alloc))?;
     let mut files = EndlessFolder::new();
-    assert_eq!(rt;
-        humus_main(alloc, &words, &mut files, &mut out, &mut err, &mut last),
-        10
-    );
-    assert_eq!(rt; err.bytes(), b"i.img: file too long\n".as_slice());
+    let got = call_with(alloc, &["exec", "i.img"], &mut files, out, err)?;
+    assert_eq!(rt; got.status, 10);
+    assert_eq!(rt; got.err.bytes(), b"i.img: file too long\n".as_slice());
     Ok(())
 }
 

@@ -1,7 +1,6 @@
 // A run over an outside that fails, is full, or cuts its text short; the same of an image is in `machines`.
-use crate::calls::{call_over, named, owned, run_over};
+use crate::calls::{call_over, call_with, named, run_over};
 use crate::runs::LABELS;
-use hum_command::{Record, humus_main};
 use hum_outside::{MemFolder, MemSink};
 use std::alloc::{AllocError, Global};
 use std::test::Fail;
@@ -27,9 +26,9 @@ fn an_output_that_fails(rt: HostRuntime) -> Result<(), Fail> {
         let got = run_over(alloc, &[], LABELS.as_bytes(), &[&[], &[call], &[]])?;
         assert_eq!(rt; got.out.bytes(), &LINE[..call as usize]);
         assert!(rt; got.err.bytes().is_empty() && got.status == 4);
-        let machine = got.last.run().ok_or("a run")?.sim().machine();
-        assert_eq!(rt; machine.journal().len(), 3);
-        assert!(rt; machine.pending() == 1 && machine.queue().event(3).is_some());
+        let run = got.left.run().ok_or("a run")?;
+        assert_eq!(rt; run.ended, 3);
+        assert!(rt; run.pending == 1 && run.given == 4);
     }
     Ok(())
 }
@@ -48,8 +47,7 @@ fn breaks(
         files.push(named(alloc, name, text.as_bytes())?)?;
     }
     let got = call_over(alloc, words, files, fails)?;
-    let [out, err] = left;
-    Ok(got.out.bytes() == out && got.err.bytes() == err && got.status == 4)
+    Ok(got.says(left[0], left[1], 4))
 }
 
 // Whether such a call that writes that on out and then on err ends with 4 and what it wrote before, where any one byte cannot be written.
@@ -121,18 +119,14 @@ fn a_debugger_that_cannot_write(rt: HostRuntime) -> Result<(), Fail> {
 #[test]
 fn an_output_that_is_full(rt: HostRuntime) -> Result<(), Fail> {
     let alloc = rt.alloc();
-    let words = owned(alloc, &["run", "f.hum"])?;
     let file = named(alloc, "f.hum", LABELS.as_bytes())?;
     let mut files = MemFolder::new(vec![in alloc; file]?, Vec::new(alloc));
-    let mut out = MemSink::with_room(alloc, 5, 100, Vec::new(alloc))?;
-    let mut err = MemSink::with_room(alloc, 100, 100, Vec::new(alloc))?;
-    let mut last = Record::empty();
-    assert_eq!(rt;
-        humus_main(alloc, &words, &mut files, &mut out, &mut err, &mut last),
-        4
-    );
-    assert_eq!(rt; out.bytes(), b"(#a, ".as_slice());
-    assert!(rt; err.bytes().is_empty());
+    let out = MemSink::with_room(alloc, 5, 100, Vec::new(alloc))?;
+    let err = MemSink::with_room(alloc, 100, 100, Vec::new(alloc))?;
+    let got = call_with(alloc, &["run", "f.hum"], &mut files, out, err)?;
+    assert_eq!(rt; got.status, 4);
+    assert_eq!(rt; got.out.bytes(), b"(#a, ".as_slice());
+    assert!(rt; got.err.bytes().is_empty());
     Ok(())
 }
 

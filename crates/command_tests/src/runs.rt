@@ -1,7 +1,7 @@
 // Texts that run, and those that are refused.
-use crate::calls::{call_over, owned, run_over};
+use crate::calls::{Counts, call_over, call_with, run_over};
 use crate::words::USAGE;
-use hum_command::{Record, chain_text, humus_main};
+use hum_command::chain_text;
 use hum_outside::{EndlessFolder, MemSink};
 use std::alloc::{AllocError, Global};
 use std::test::Fail;
@@ -201,7 +201,7 @@ fn texts_that_run(rt: HostRuntime) -> Result<(), Fail> {
         assert_eq!(rt; got.err.bytes(), err.as_bytes(), "{text}");
         assert_eq!(rt; got.out.bytes(), out.as_bytes(), "{text}");
         assert_eq!(rt; got.status, status, "{text}");
-        assert!(rt; got.last.run().is_some() && got.last.machine().is_none());
+        assert!(rt; got.left.run().is_some());
     }
     Ok(())
 }
@@ -234,7 +234,7 @@ fn texts_that_are_refused(rt: HostRuntime) -> Result<(), Fail> {
         let got = run_over(alloc, &[], text.as_bytes(), &[&[], &[], &[]])?;
         assert_eq!(rt; got.err.bytes(), err.as_bytes(), "{text}");
         assert_eq!(rt; got.status, 3, "{text}");
-        assert!(rt; got.out.bytes().is_empty() && got.last.run().is_none());
+        assert!(rt; got.out.bytes().is_empty() && got.left.is_nothing());
     }
     Ok(())
 }
@@ -301,16 +301,12 @@ fn a_text_that_is_not_there(rt: HostRuntime) -> Result<(), Fail> {
 #[test]
 fn a_text_that_never_ends(rt: HostRuntime) -> Result<(), Fail> {
     let alloc = rt.alloc();
-    let words = owned(alloc, &["run", "-"])?;
-    let mut out = MemSink::with_room(alloc, 0, 1, Vec::new(alloc))?;
-    let mut err = MemSink::with_room(alloc, 100, 1, Vec::new(alloc))?;
-    let mut last = Record::empty();
+    let out = MemSink::with_room(alloc, 0, 1, Vec::new(alloc))?;
+    let err = MemSink::with_room(alloc, 100, 1, Vec::new(alloc))?;
     let mut files = EndlessFolder::new();
-    assert_eq!(rt;
-        humus_main(alloc, &words, &mut files, &mut out, &mut err, &mut last),
-        3
-    );
-    assert_eq!(rt; err.bytes(), b"-: text too long\n".as_slice());
+    let got = call_with(alloc, &["run", "-"], &mut files, out, err)?;
+    assert_eq!(rt; got.status, 3);
+    assert_eq!(rt; got.err.bytes(), b"-: text too long\n".as_slice());
     Ok(())
 }
 
@@ -353,24 +349,25 @@ fn faults_while_a_text_runs(rt: HostRuntime) -> Result<(), Fail> {
         assert_eq!(rt; got.out.bytes(), out.as_bytes(), "{text}");
         assert_eq!(rt; got.err.bytes(), err.as_bytes(), "{text}");
         assert_eq!(rt; got.status, status, "{text}");
-        assert!(rt; got.last.run().is_some() == (status == 4));
+        assert!(rt; got.left.run().is_some() == (status == 4));
     }
     Ok(())
+}
+
+// What the events of a text came to in the run that is left, where these calls on out fail.
+fn counts_left(alloc: Global, text: &str, fails: &[u64]) -> Result<Option<Counts>, AllocError> {
+    let got = run_over(alloc, &[], text.as_bytes(), &[&[], fails, &[]])?;
+    Ok(got.left.run())
 }
 
 #[test]
 fn the_run_that_is_left(rt: HostRuntime) -> Result<(), Fail> {
     let alloc = rt.alloc();
-    let got = run_over(alloc, &[], JOIN.as_bytes(), &[&[], &[], &[]])?;
-    let run = got.last.run().ok_or("a run")?;
-    for (number, entry) in run.sim().machine().journal().iter().enumerate() {
-        assert_eq!(rt; entry.message as usize, number);
-    }
-    let got = run_over(alloc, &[], LABELS.as_bytes(), &[&[], &[2], &[]])?;
-    let machine = got.last.run().ok_or("a run")?.sim().machine();
-    assert_eq!(rt; machine.journal().len(), 3);
-    assert_eq!(rt; machine.pending(), 1);
-    assert!(rt; machine.queue().event(3).is_some());
+    let whole = counts_left(alloc, JOIN, &[])?.ok_or("a run")?;
+    assert!(rt; whole.ended == 7 && whole.in_order && whole.pending == 0);
+    let broken = counts_left(alloc, LABELS, &[2])?.ok_or("a run")?;
+    assert!(rt; broken.ended == 3 && broken.in_order);
+    assert!(rt; broken.pending == 1 && broken.given == 4);
     Ok(())
 }
 
@@ -387,10 +384,8 @@ fn chain_says(
     all.extend_from_slice(words)?;
     let got = call_over(alloc, &all, Vec::new(alloc), &[&[], &[], &[]])?;
     Ok(
-        got.out.bytes() == out.as_bytes()
-            && got.err.bytes() == err.as_bytes()
-            && got.status == status
-            && got.last.run().is_some() == (status != 1),
+        got.says(out.as_bytes(), err.as_bytes(), status)
+            && got.left.run().is_some() == (status != 1),
     )
 }
 
