@@ -57,7 +57,7 @@ SEND d(20, 1) TO println
 ";
 
 // A text, the keys, what stands on out and on err, and the status.
-const ROWS: [(&str, &[&str], &str, &str, u8); 19] = [
+const ROWS: [(&str, &[&str], &str, &str, u8); 21] = [
     (
         "",
         &[],
@@ -122,6 +122,13 @@ const ROWS: [(&str, &[&str], &str, &str, u8); 19] = [
         9,
     ),
     (
+        TWICE,
+        &["lanes=4", "seed=1"],
+        "5\n",
+        "event 1 failed: second become\nfinished 4 committed 3 failed 1 spent 0 pending 0\n",
+        9,
+    ),
+    (
         "CASE 3 OF 1 : [ ] END",
         &[],
         "",
@@ -141,6 +148,13 @@ const ROWS: [(&str, &[&str], &str, &str, u8); 19] = [
         "",
         "spent cycles\nfinished 1 committed 0 failed 0 spent 1 pending 0\n",
         5,
+    ),
+    (
+        LABELS,
+        &["lanes=64", "seed=4294967295"],
+        "(#a, #b, 7)\n",
+        "finished 4 committed 4 failed 0 spent 0 pending 0\n",
+        0,
     ),
     (
         LABELS,
@@ -368,6 +382,19 @@ fn the_run_that_is_left(rt: HostRuntime) -> Result<(), Fail> {
     let broken = counts_left(alloc, LABELS, &[2])?.ok_or("a run")?;
     assert!(rt; broken.ended == 3 && broken.in_order);
     assert!(rt; broken.pending == 1 && broken.given == 4);
+    Ok(())
+}
+
+// The event is finished, though the first byte of its line can't be written.
+#[test]
+fn a_failure_of_which_nothing_is_told(rt: HostRuntime) -> Result<(), Fail> {
+    let alloc = rt.alloc();
+    let text = b"SEND 1 TO println THROW #no";
+    let got = run_over(alloc, &[], text, &[&[], &[], &[0]])?;
+    assert!(rt; got.says(b"", b"", 4));
+    let run = got.left.run().ok_or("a run")?;
+    assert!(rt; run.ended == 1 && run.in_order);
+    assert!(rt; run.pending == 0 && run.given == 1);
     Ok(())
 }
 
