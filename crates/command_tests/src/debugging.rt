@@ -161,16 +161,35 @@ fn code_is_refused_before_its_script(rt: HostRuntime) -> Result<(), Fail> {
     Ok(())
 }
 
+// Whether `debug` of that module by a script of so many blanks writes that on err and nothing on out, and ends so.
+fn blanks_say(
+    alloc: Global,
+    module: &[u8],
+    count: usize,
+    told: &str,
+    status: u8,
+) -> Result<bool, AllocError> {
+    let blanks = vec![in alloc; b' '; count]?;
+    let code = named(alloc, "m.asm", module)?;
+    let script = named(alloc, "s.txt", &blanks)?;
+    let files = vec![in alloc; code, script]?;
+    let got = call_over(alloc, &["debug", "m.asm", "s.txt"], files, &[&[], &[], &[]])?;
+    Ok(is_debugged(&got, "", told, status))
+}
+
 #[test]
 fn a_script_at_its_limit(rt: HostRuntime) -> Result<(), Fail> {
     let alloc = rt.alloc();
-    let blanks = vec![in alloc; b' '; 1_048_577]?;
-    let most = ("s.txt", &blanks[..1_048_576]);
-    assert!(rt; code_says(alloc, "m.asm", &[MODULE, most], "", 0)?);
-    let more = ("s.txt", blanks.as_slice());
-    let first = "s.txt:1: not a command\n";
-    assert!(rt; code_says(alloc, "m.asm", &[MODULE, more], first, 11)?);
-    let code = ("m.asm", b"boot:\nend commit\n".as_slice());
-    assert!(rt; code_says(alloc, "m.asm", &[code, more], "link: no boot\n", 10)?);
+    assert!(rt; blanks_say(alloc, BOOT, 1_048_576, "", 0)?);
+    assert!(rt; blanks_say(alloc, BOOT, 1_048_577, "s.txt:1: not a command\n", 11)?);
+    assert!(rt;
+        blanks_say(
+            alloc,
+            b"boot:\nend commit\n",
+            1_048_577,
+            "link: no boot\n",
+            10
+        )?
+    );
     Ok(())
 }
